@@ -1,0 +1,66 @@
+-- Laws of answers and of runs: what an accepted answer went through, and one induction over accepted runs.
+use mathlib.Core.Path.{_≡_, refl, sym, ap, _∙_, subst}
+use mathlib.Core.Bool.{Bool, true, false}
+use mathlib.Core.List.{List, [], _∷_}
+use mathlib.Core.Option.{Option, none, some}
+use Prim.Native.Nat.{ℕ}
+use native.Mathlib.Omega.{arith}
+use Rattle.definition.specs.Answers.{Checked, refused, accepted, _>>=_, _>>_, require, orElse, after, run}
+
+pub never : {A : Type 0} {k : ℕ} {a : A} → refused k ≡ accepted a → ⊥
+never e = let z : _≡_ {A = ℕ} 0 1 = cc in omega arith
+
+pub same : {A : Type 0} {a b : A} → accepted a ≡ accepted b → a ≡ b
+same e = cc
+
+pub same-number : {A : Type 0} {j k : ℕ} → _≡_ {A = Checked A} (refused j) (refused k) → j ≡ k
+same-number e = cc
+
+pub true-not-false : true ≡ false → ⊥
+true-not-false e = let z : _≡_ {A = ℕ} 0 1 = cc in omega arith
+
+pub record Bound {A B : Type 0} (c : Checked A) (f : A → Checked B) (b : B) : Type 0 where
+  pub val : A
+  pub is : c ≡ accepted val
+  pub rest : f val ≡ accepted b
+
+-- the value that an accepted answer went through
+pub bound : {A B : Type 0} (c : Checked A) (f : A → Checked B) {b : B} → (c >>= f) ≡ accepted b → Bound c f b
+bound (refused k) f e = absurd (never e)
+bound (accepted a) f e = record { val = a; is = refl; rest = e }
+
+-- a check that an accepted answer passed, and what came after it
+pub passed : {B : Type 0} (t : Bool) (k : ℕ) (c : Checked B) {b : B} → (require t k >> c) ≡ accepted b → (t ≡ true) × (c ≡ accepted b)
+passed true k c e = (refl, e)
+passed false k c e = absurd (never e)
+
+-- the same where an answer is checked, and nothing is made of it
+pub passed-by : {A B : Type 0} (d : Checked A) (c : Checked B) {b : B} → (d >> c) ≡ accepted b → ((a : A) × (d ≡ accepted a)) × (c ≡ accepted b)
+passed-by (refused k) c e = absurd (never e)
+passed-by (accepted a) c e = ((a, refl), e)
+
+pub found : {A : Type 0} (m : Option A) {a : A} → orElse m (refused 12) ≡ accepted a → m ≡ some a
+found none e = absurd (never e)
+found (some a) e = ap some (same e)
+
+module _ {S I O : Type 0} (step : S → I → Checked (S × O)) (nothing : O) (_⊕_ : O → O → O) where
+  infixl 60 _⊕_
+  pub after-accepted : (o : O) (c : Checked (S × O)) (q : S × O) → after step nothing _⊕_ o c ≡ accepted q → (r : S × O) × (c ≡ accepted r) × ((r .0, o ⊕ (r .1)) ≡ q)
+  after-accepted o (refused k) q e = absurd (never e)
+  after-accepted o (accepted r) q e = (r, refl, same e)
+
+  -- a run whose first step and whose rest are accepted
+  pub on : (s t : S) (i : I) (is : List I) (a : O) (r : S × O) → step s i ≡ accepted (t, a) → run step nothing _⊕_ t is ≡ accepted r → run step nothing _⊕_ s (i ∷ is) ≡ accepted (r .0, a ⊕ (r .1))
+  on s t i is a r e f = rw (e, f)
+
+  -- what holds of an accepted run, by its steps
+  pub by-steps : (P : S → List I → S → O → Type 0)
+      → ((s : S) → P s [] s nothing)
+      → ((s : S) (i : I) (t : S) (a : O) (is : List I) (u : S) (b : O) → step s i ≡ accepted (t, a) → P t is u b → P s (i ∷ is) u (a ⊕ b))
+      → (s : S) (is : List I) (u : S) (o : O) → run step nothing _⊕_ s is ≡ accepted (u, o) → P s is u o
+  by-steps P z n s [] u o e = subst (λ (r : S × O). P s [] (r .0) (r .1)) (same e) (z s)
+  by-steps P z n s (i ∷ is) u o e =
+      let b = bound (step s i) (λ r. after step nothing _⊕_ (r .1) (run step nothing _⊕_ (r .0) is)) e in
+      let c = after-accepted (b .val .1) (run step nothing _⊕_ (b .val .0) is) (u, o) (b .rest) in
+      subst (λ (r : S × O). P s (i ∷ is) (r .0) (r .1)) (c .2)
+      (n s i (b .val .0) (b .val .1) is (c .0 .0) (c .0 .1) (b .is) (by-steps P z n (b .val .0) is (c .0 .0) (c .0 .1) (c .1)))

@@ -1,0 +1,162 @@
+-- Each checked item has a size that its option has, by one test over the option table.
+use Prim.Native.Nat.{ℕ}
+use mathlib.Core.Path.{_≡_, refl, sym, subst}
+use mathlib.Core.Bool.{Bool, true, false, _&&_, cond}
+use mathlib.Core.List.{List, [], _∷_}
+use lib.Dec.{T, leb, eqb}
+use Rattle.definition.specs.Answers.{Checked, refused, accepted, _>>=_, _>>_, require}
+use Rattle.definition.specs.Options.{options, find, entryOf}
+use Rattle.definition.specs.Items.{Item, numeralOf}
+use Rattle.definition.specs.Ops.{opOf, opBy, opWith, naturalOf, sizeOr, limitOr, needed, valueOr, within16, isPower}
+use Rattle.definition.specs.declared.Class.{Class}
+use Rattle.definition.specs.declared.Class.the-variants as Class
+use Rattle.definition.specs.declared.Kind.{Kind}
+use Rattle.definition.specs.declared.Kind.the-variants.{SmallSigned, SmallUnsigned, Signed, Unsigned, LuaInteger, LuaUnsigned, Size, Single, Double}
+use Rattle.definition.specs.declared.NumeralRule.{NumeralRule}
+use Rattle.definition.specs.declared.NumeralRule.the-variants.{Nothing, Digits, DigitsBehindX, NextByte}
+use Rattle.definition.specs.declared.Entry.{Entry}
+use Rattle.definition.specs.declared.Numeral.{Numeral}
+use Rattle.definition.specs.declared.Numeral.the-variants.{Missing}
+use Rattle.definition.specs.declared.Field.the-variants.{Number, Chars, Counted}
+use Rattle.definition.specs.declared.Setting.{Setting}
+use Rattle.definition.specs.declared.Setting.the-variants as Setting
+use Rattle.definition.specs.declared.Op.{Op}
+use Rattle.definition.specs.declared.Op.the-variants as Op
+use Rattle.definition.proofs.Answers.{never, same, bound, passed}
+use Rattle.definition.proofs.Numbers.{validSize}
+use Rattle.definition.proofs.Fields.{validField}
+
+abbrev pub validSetting : Setting → Bool
+validSetting (Setting.Order o) = true
+validSetting (Setting.Limit n) = isPower n
+
+abbrev pub validOp : Op → Bool
+validOp Op.Blank = true
+validOp (Op.Set x) = validSetting x
+validOp (Op.Pad n k) = true
+validOp (Op.Put f) = validField f
+
+-- i I l L have any size from 1 on
+abbrev anySize : Kind → Bool
+anySize SmallSigned = false
+anySize SmallUnsigned = false
+anySize Signed = true
+anySize Unsigned = true
+anySize LuaInteger = false
+anySize LuaUnsigned = false
+anySize Size = false
+anySize Single = false
+anySize Double = false
+
+-- a number option has its own size, or takes a numeral and has any
+abbrev sizesOk : NumeralRule → Kind → ℕ → Bool
+sizesOk Nothing k n = validSize k n
+sizesOk Digits k n = anySize k
+sizesOk DigitsBehindX k n = validSize k n
+sizesOk NextByte k n = true
+
+abbrev entryOk : Class → NumeralRule → ℕ → Bool
+entryOk Class.NoOption r n = true
+entryOk Class.Blank r n = true
+entryOk (Class.Order o) r n = true
+entryOk Class.Limit r n = true
+entryOk (Class.Number k) r n = sizesOk r k n
+entryOk Class.Chars r n = true
+entryOk Class.ZeroEnded r n = true
+entryOk Class.Counted r n = true
+entryOk Class.Fill r n = true
+entryOk Class.Align r n = true
+
+abbrev ok : Entry → Bool
+ok e = entryOk (e .class) (e .rule) (e .size)
+
+abbrev every : (Entry → Bool) → List (ℕ × Entry) → Bool
+every p [] = true
+every p (e ∷ es) = cond (p (e .1)) (every p es) false
+
+-- a test that passes at every entry of a list, and at no option, passes at the entry that is found
+find-every : (p : Entry → Bool) (b : ℕ) (es : List (ℕ × Entry)) → T (p (find b [])) → T (every p es) → T (p (find b es))
+find-every p b [] none all = none
+find-every p b (e ∷ es) none all = go (eqb b (e .0)) (p (e .1)) refl all (find-every p b es none)
+  where
+    go : (t q : Bool) → p (e .1) ≡ q → T (cond q (every p es) false) → (T (every p es) → T (p (find b es))) → T (p (cond t (e .1) (find b es)))
+    go true true i all ih = subst T (sym i) tt
+    go true false i all ih = absurd all
+    go false true i all ih = ih all
+    go false false i all ih = absurd all
+
+-- the table's rule, by one test over it
+entry-ok : (b : ℕ) → T (ok (entryOf b))
+unfolding options entryOf
+entry-ok b = find-every ok b options tt tt
+
+both-left : (a b : Bool) → (a && b) ≡ true → a ≡ true
+both-left true b e = refl
+both-left false b e = e
+
+size-from-1 : (d : ℕ) (m : Numeral) (n : ℕ) → sizeOr d m ≡ accepted n → leb 1 n ≡ true
+size-from-1 d m n e =
+    let b = bound (valueOr d m) (λ x. require (within16 x) 3 >> accepted x) e in
+    let p = passed (within16 (b .val)) 3 (accepted (b .val)) (b .rest) in
+    subst (λ (x : ℕ). leb 1 x ≡ true) (same (p .1)) (both-left (leb 1 (b .val)) (leb (b .val) 16) (p .0))
+
+limit-power : (d : ℕ) (m : Numeral) (n : ℕ) → limitOr d m ≡ accepted n → T (isPower n)
+limit-power d m n e =
+    let b = bound (valueOr d m) (λ x. require (within16 x) 4 >> (require (isPower x) 5 >> accepted x)) e in
+    let c = passed (within16 (b .val)) 4 (require (isPower (b .val)) 5 >> accepted (b .val)) (b .rest) in
+    let p = passed (isPower (b .val)) 5 (accepted (b .val)) (c .1) in
+    subst (λ (x : ℕ). T (isPower x)) (same (p .1)) (subst T (sym (p .0)) tt)
+
+any-size : (k : Kind) (n : ℕ) → T (anySize k) → leb 1 n ≡ true → T (validSize k n)
+any-size SmallSigned n a e = absurd a
+any-size SmallUnsigned n a e = absurd a
+any-size Signed n a e = subst T (sym e) tt
+any-size Unsigned n a e = tt
+any-size LuaInteger n a e = absurd a
+any-size LuaUnsigned n a e = absurd a
+any-size Size n a e = absurd a
+any-size Single n a e = absurd a
+any-size Double n a e = absurd a
+
+abbrev Good : Op → Type 0
+Good o = T (validOp o)
+
+-- a number's size is right, by its size without a numeral or for any numeral
+abbrev SizeOk : Class → ℕ → Numeral → Type 0
+SizeOk c d m = (k : Kind) → c ≡ Class.Number k → (n : ℕ) → sizeOr d m ≡ accepted n → T (validSize k n)
+
+by-class : (c : Class) (d : ℕ) (m : Numeral) (o : Op) → SizeOk c d m → opBy c d m ≡ accepted o → T (validOp o)
+by-class Class.NoOption d m o h e = absurd (never e)
+by-class Class.Blank d m o h e = subst Good (same e) tt
+by-class (Class.Order x) d m o h e = subst Good (same e) tt
+by-class Class.Limit d m o h e =
+    let b = bound (limitOr d m) (λ n. accepted (Op.Set (Setting.Limit n))) e in
+    subst Good (same (b .rest)) (limit-power d m (b .val) (b .is))
+by-class (Class.Number k) d m o h e =
+    let b = bound (sizeOr d m) (λ n. accepted (Op.Put (Number k n))) e in
+    subst Good (same (b .rest)) (h k refl (b .val) (b .is))
+by-class Class.Chars d m o h e = subst Good (same (bound (needed m) (λ n. accepted (Op.Put (Chars n))) e .rest)) tt
+by-class Class.ZeroEnded d m o h e = subst Good (same e) tt
+by-class Class.Counted d m o h e = subst Good (same (bound (sizeOr d m) (λ n. accepted (Op.Put (Counted n))) e .rest)) tt
+by-class Class.Fill d m o h e = subst Good (same e) tt
+by-class Class.Align d m o h e = absurd (never e)
+
+missing-size : (d n : ℕ) → sizeOr d Missing ≡ accepted n → d ≡ n
+missing-size d n e = same (passed (within16 d) 3 (accepted d) e .1)
+
+own-size : (c : Class) (r : NumeralRule) (d : ℕ) → ((k : Kind) → T (sizesOk r k d) → T (validSize k d)) → T (entryOk c r d) → SizeOk c d Missing
+own-size c r d f h k e n s =
+    let g : T (sizesOk r k d) = subst (λ (x : Class). T (entryOk x r d)) e h in
+    subst (λ (x : ℕ). T (validSize k x)) (missing-size d n s) (f k g)
+
+by-rule : (r : NumeralRule) (e : Entry) (s : List ℕ) (o : Op) → T (entryOk (e .class) r (e .size)) → opWith r e s ≡ accepted o → T (validOp o)
+by-rule Nothing e s o h i = by-class (e .class) (e .size) Missing o (own-size (e .class) Nothing (e .size) (λ k g. g) h) i
+by-rule Digits e s o h i =
+    by-class (e .class) (e .size) (numeralOf s) o (λ k c n m. any-size k n (subst (λ (x : Class). T (entryOk x Digits (e .size))) c h) (size-from-1 (e .size) (numeralOf s) n m)) i
+by-rule DigitsBehindX e s o h i = by-class (e .class) (e .size) Missing o (own-size (e .class) DigitsBehindX (e .size) (λ k g. g) h) i
+by-rule NextByte e s o h i = subst Good (same (bound (naturalOf s) (λ n. accepted (Op.Pad n 0)) i .rest)) tt
+
+-- each checked item has a size that its option has, and a limit that is a power of two
+pub op-valid : (i : Item) (o : Op) → opOf i ≡ accepted o → T (validOp o)
+unfolding opOf
+op-valid i o e = by-rule (entryOf (i .byte) .rule) (entryOf (i .byte)) (i .more) o (entry-ok (i .byte)) e

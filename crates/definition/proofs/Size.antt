@@ -1,0 +1,87 @@
+-- The length of what is written is the measure of the format, which is refused 10 where the format has z or s.
+use Prim.Native.Nat.{ℕ, _+_}
+use native.Mathlib.Nat.{zero-add}
+use mathlib.Core.Path.{_≡_, refl, sym, ap, _∙_, subst}
+use mathlib.Core.Bool.{Bool, true, false, _||_, cond}
+use mathlib.Core.List.{List, _∷_}
+use lib.Dec.{leb}
+use lib.ListN.{length}
+use borrow.Author.Tests.{leb-true}
+use Rattle.definition.specs.Answers.{Checked, refused, accepted, _>>=_, _>>_, require, orElse, after}
+use Rattle.definition.specs.Items.{Item, items}
+use Rattle.definition.specs.Bytes.{coded}
+use Rattle.definition.specs.Values.{Value, asBytes}
+use Rattle.definition.specs.States.{start, further, padding}
+use Rattle.definition.specs.Fields.{word, encode, filled}
+use Rattle.definition.specs.Measuring.{measurePad, measureOp, measureItem, measuring, measure, silent}
+use Rattle.definition.specs.Writing.{Output, nothing, _⊕_, Place, place, writeItem, writing, write}
+use Rattle.definition.specs.Claims.{isOpen, ofField, hasOpen}
+use Rattle.definition.specs.declared.State.{State}
+use Rattle.definition.specs.declared.Kind.{Kind}
+use Rattle.definition.specs.declared.Field.{Field}
+use Rattle.definition.specs.declared.Field.the-variants.{Number, Chars, ZeroEnded, Counted}
+use Rattle.definition.specs.declared.Op.{Op}
+use Rattle.definition.proofs.Answers.{same, bound, passed, by-steps}
+use Rattle.definition.proofs.Bytes.{length-coded}
+use Rattle.definition.proofs.Texts.{length-filled}
+use Rattle.definition.proofs.Steps.{Roomy, room-longer, Step, blank, sets, pads-out, puts, Ran, ran}
+use Rattle.definition.proofs.ReadBack.{length-written}
+
+number-size : (o : Bool) (k : Kind) (n : ℕ) (v : Value) (bs : List ℕ) → encode o (Number k n) v ≡ accepted bs → length bs ≡ n
+unfolding encode
+number-size o k n v bs e = let b = bound (word k n v) (λ z. accepted (coded o n z)) e in subst (λ (l : List ℕ). length l ≡ n) (same (b .rest)) (length-coded o n (b .val))
+
+chars-size : (o : Bool) (n : ℕ) (v : Value) (bs : List ℕ) → encode o (Chars n) v ≡ accepted bs → length bs ≡ n
+unfolding encode
+chars-size o n v bs e =
+    let b = bound (orElse (asBytes v) (refused 12)) _ e in
+    let p = passed (leb (length (b .val)) n) 15 (accepted (filled n (b .val))) (b .rest) in
+    subst (λ (l : List ℕ). length l ≡ n) (same (p .1)) (length-filled n (b .val) (leb-true (length (b .val)) n (p .0)))
+
+pad-size : (s : State) (n k p m : ℕ) → m ≡ k → padding s n ≡ accepted p → Roomy s (p + m) → measurePad s n k ≡ accepted (further s (p + m))
+pad-size s n k p m q e w = subst (λ (x : ℕ). measurePad s n x ≡ accepted (further s (p + m))) q (rw (e, room-longer s (p + m) w))
+
+-- where an item that wrote has z or s, measuring refuses it, and else comes to the same state
+size-step : (r : Place Value) (o : Op) (t : Place Value) (a : Output) → Step r o t a → measureOp (r .state) o ≡ cond (ofField isOpen false (accepted o)) (refused 10) (accepted (t .state))
+unfolding measureOp
+size-step r o t a blank = refl
+size-step r o t a (sets x) = refl
+size-step r o t a (pads-out n k p e w) = pad-size (r .state) n k p k refl e w
+size-step r o t a (puts (Number k n) p s v vs bs e g l c w) = pad-size (r .state) n n p (length bs) (number-size (r .state .big) k n v bs c) e w
+size-step r o t a (puts (Chars n) p s v vs bs e g l c w) = pad-size (r .state) 1 n p (length bs) (chars-size (r .state .big) n v bs c) e w
+size-step r o t a (puts ZeroEnded p s v vs bs e g l c w) = refl
+size-step r o t a (puts (Counted n) p s v vs bs e g l c w) = refl
+
+abbrev measured : Bool → State → Checked (State × Unit {0})
+measured z s = cond z (refused 10) (accepted (s, tt))
+
+abbrev RunSize : Place Value → List Item → Place Value → Output → Type 0
+RunSize r is u o = measuring (r .state) is ≡ measured (hasOpen is) (u .state)
+
+size-item : (r : Place Value) (i : Item) (t : Place Value) (a : Output) (is : List Item) (u : Place Value) (o : Output) → writeItem r i ≡ accepted (t, a) → RunSize t is u o → RunSize r (i ∷ is) u (a ⊕ o)
+unfolding measureItem
+size-item r i t a is u o e ih =
+    let w = ran r i t a e in
+    rw (w .is, size-step r (w .op) t a (w .step)) (go (ofField isOpen false (accepted (w .op))))
+  where
+    last : (y : Bool) → after measureItem tt silent tt (measured y (u .state)) ≡ measured y (u .state)
+    last true = refl
+    last false = refl
+
+    go : (x : Bool) → (_>>=_ {A = State} {B = State × Unit {0}} (cond x (refused 10) (accepted (t .state))) (λ q. accepted (q, tt)) >>= λ q. after measureItem tt silent (q .1) (measuring (q .0) is)) ≡ measured (x || hasOpen is) (u .state)
+    go true = refl
+    go false = rw ih (last (hasOpen is))
+
+run-size : (r : Place Value) (is : List Item) (u : Place Value) (o : Output) → writing r is ≡ accepted (u, o) → RunSize r is u o
+run-size = by-steps writeItem nothing _⊕_ RunSize (λ r. refl) size-item
+
+pub size-measured : (f : List ℕ) (vs : List Value) (u : Place Value) (o : Output) → write start vs f ≡ accepted (u, o) → measure f ≡ cond (hasOpen (items f)) (refused 10) (accepted (length (o .cells)))
+unfolding measure
+size-measured f vs u o e = rw (run-size (place start vs) (items f) u o e) (go (hasOpen (items f)))
+  where
+    l : u .state .length ≡ length (o .cells)
+    l = sym (length-written (place start vs) (items f) u o e) ∙ zero-add (length (o .cells))
+
+    go : (x : Bool) → _>>=_ {B = ℕ} (measured x (u .state)) (λ r. accepted (r .0 .length)) ≡ cond x (refused 10) (accepted (length (o .cells)))
+    go true = refl
+    go false = ap accepted l

@@ -1,0 +1,197 @@
+-- Demand 3 as statements about the calls of specs/Calls.antt, which the contracts of the code name. proofs/Demand.antt proves each.
+use Prim.Native.Nat.{ℕ, _+_, _-_, _%_, _^_, _≤_, _<_}
+use mathlib.Core.Path.{_≡_}
+use mathlib.Core.Bool.{Bool, true, false, _||_, cond}
+use mathlib.Core.List.{List, [], _∷_, _++_, map}
+use mathlib.Core.Logic.{_⊎_}
+use mathlib.Core.Option.{Option, none, some}
+use lib.Dec.{T, leb}
+use lib.IntN.{ℤ, pos}
+use lib.ListN.{length, take, drop}
+use Rattle.definition.specs.Answers.{Checked, refused, accepted, _>>=_}
+use Rattle.definition.specs.Items.{Item, items, texts}
+use Rattle.definition.specs.Ops.{opOf}
+use Rattle.definition.specs.Values.{Value, asInteger}
+use Rattle.definition.specs.Lists.{listOf, fieldsAfter}
+use Rattle.definition.specs.States.{start}
+use Rattle.definition.specs.Fields.{kept}
+use Rattle.definition.specs.Writing.{Cell, pad, byte, Place, Output, nothing}
+use Rattle.definition.specs.Reading.{offset, positionOf}
+use Rattle.definition.specs.Calls.{Call, call, stringPacksize, listBound, pack, recordOf, packContinued, stringPack, stringUnpack}
+use Rattle.definition.specs.declared.State.{State}
+use Rattle.definition.specs.declared.Field.{Field}
+use Rattle.definition.specs.declared.Field.the-variants.{Number, Chars, ZeroEnded, Counted}
+use Rattle.definition.specs.declared.Kind.{Kind}
+use Rattle.definition.specs.declared.Kind.the-variants.{SmallSigned, SmallUnsigned, Signed, Unsigned, LuaInteger, LuaUnsigned, Size, Single, Double}
+use Rattle.definition.specs.declared.Op.{Op}
+use Rattle.definition.specs.declared.Op.the-variants.{Blank, Set, Pad, Put}
+use Rattle.definition.specs.declared.Continued.{Continued}
+use Rattle.definition.specs.declared.Unpacked.{Unpacked}
+
+abbrev pub All : {A : Type 0} → (A → Type 0) → List A → Type 0
+All P [] = Unit {0}
+All P (a ∷ l) = P a × All P l
+
+-- "A buffer is long enough if its call doesn't give 22."
+abbrev pub LongEnough : {A : Type 0} → Checked A → Type 0
+LongEnough c = c ≡ refused 22 → ⊥
+
+-- a call that is accepted with the answer a, its result s at the front of the buffer b
+abbrev pub gives : {A : Type 0} → A → List ℕ → List ℕ → Call A
+gives a s b = call (accepted a) (s ++ drop (length s) b)
+
+-- ---- the words of the demand, of a format f and a value list l
+
+-- what writing f with the values of l puts out
+abbrev pub outputOf : Checked (Place Value × Output) → Output
+outputOf (refused k) = nothing
+outputOf (accepted r) = r .1
+
+abbrev pub written : List ℕ → List ℕ → Output
+written f l = outputOf (pack start f l)
+
+-- B
+abbrev pub packedBytes : List ℕ → List ℕ → List ℕ
+packedBytes f l = recordOf (written f l)
+
+-- "document 01's kept values", as the list that reading gives
+abbrev pub keep : Field × Value → Value
+keep t = kept (t .0) (t .1)
+
+abbrev pub keptList : List ℕ → List ℕ → List ℕ
+keptList f l = listOf (map keep (written f l .took))
+
+-- "holding B .., whichever bytes replace B's padding": the bytes are the cells', each padding any byte
+abbrev pub Holds : List Cell → List ℕ → Type 0
+Holds [] [] = Unit {0}
+Holds [] (x ∷ d) = ⊥
+Holds (pad ∷ c) [] = ⊥
+Holds (pad ∷ c) (x ∷ d) = Holds c d
+Holds (byte y ∷ c) [] = ⊥
+Holds (byte y ∷ c) (x ∷ d) = (x ≡ y) × Holds c d
+
+-- a test of the field of an item; `otherwise` for an item that has none
+abbrev pub ofField : (Field → Bool) → Bool → Checked Op → Bool
+ofField test otherwise (refused k) = otherwise
+ofField test otherwise (accepted Blank) = otherwise
+ofField test otherwise (accepted (Set x)) = otherwise
+ofField test otherwise (accepted (Pad n k)) = otherwise
+ofField test otherwise (accepted (Put f)) = test f
+
+abbrev pub isOpen : Field → Bool
+isOpen (Number k n) = false
+isOpen (Chars n) = false
+isOpen ZeroEnded = true
+isOpen (Counted n) = true
+
+-- "F has z or s"
+abbrev pub hasOpen : List Item → Bool
+hasOpen [] = false
+hasOpen (i ∷ is) = ofField isOpen false (opOf i) || hasOpen is
+
+abbrev pub isShort : Field → Bool
+isShort (Number k n) = true
+isShort (Chars n) = leb n 65535
+isShort ZeroEnded = true
+isShort (Counted n) = true
+
+-- "no c numeral is above 65,535"
+abbrev pub ShortChars : List ℕ → Type 0
+ShortChars f = All (λ i. T (ofField isShort true (opOf i))) (items f)
+
+abbrev pub isSome : {A : Type 0} → Option A → Bool
+isSome none = false
+isSome (some a) = true
+
+-- what J took has an integer; nothing is said of other options
+abbrev pub integerForJ : Field → Value → Bool
+integerForJ (Number SmallSigned n) v = true
+integerForJ (Number SmallUnsigned n) v = true
+integerForJ (Number Signed n) v = true
+integerForJ (Number Unsigned n) v = true
+integerForJ (Number LuaInteger n) v = true
+integerForJ (Number LuaUnsigned n) v = isSome (asInteger v)
+integerForJ (Number Size n) v = true
+integerForJ (Number Single n) v = true
+integerForJ (Number Double n) v = true
+integerForJ (Chars n) v = true
+integerForJ ZeroEnded v = true
+integerForJ (Counted n) v = true
+
+-- "J took integers only means that as_integer gave one for every J"
+abbrev pub IntegersForJ : List ℕ → List ℕ → Type 0
+IntegersForJ f l = All (λ t. T (integerForJ (t .0) (t .1))) (written f l .took)
+
+-- ---- size, reading back, writing again: where writing f with l into some buffer b is accepted
+
+pub record Agreement (f l b : List ℕ) : Type 0 where
+  -- "Writing accepts F with some values and gives B."
+  pub wrote : stringPack f l b ≡ gives (length (packedBytes f l)) (packedBytes f l) b
+  -- "Then packsize gives B's length if F has no z or s, and 10 if it has."
+  pub size : stringPacksize f ≡ cond (hasOpen (items f)) (refused 10) (accepted (length (packedBytes f l)))
+  -- "If also no c numeral is above 65,535 and J took integers only: in any data of at most 2^63-1 bytes holding B at an offset that is a multiple of 16, whichever bytes replace B's padding, reading F there gives exactly document 01's kept values and the position just after B"
+  pub back : ShortChars f → IntegersForJ f l → (front held rest b : List ℕ) → length front % 16 ≡ 0 → Holds (written f l .cells) held → length (front ++ (held ++ rest)) ≤ 2 ^ 63 - 1
+      → LongEnough (stringUnpack f (front ++ (held ++ rest)) (pos (length front + 1)) b .answer)
+      → stringUnpack f (front ++ (held ++ rest)) (pos (length front + 1)) b
+      ≡ gives (record { length = length (keptList f l); next = positionOf (offset (length front + length (packedBytes f l))) }) (keptList f l) b
+  -- "and writing those values again gives B"
+  pub again : ShortChars f → IntegersForJ f l → (b : List ℕ) → LongEnough (stringPack f (keptList f l) b .answer)
+      → stringPack f (keptList f l) b ≡ gives (length (packedBytes f l)) (packedBytes f l) b
+
+-- ---- cuts
+
+abbrev pub joined : {A : Type 0} → List (List A) → List A
+joined [] = []
+joined (x ∷ xs) = x ++ joined xs
+
+-- "every list of parts into which cuts between items divide the format": each part is the text of a group of f's items
+pub record Divides (f : List ℕ) (ps : List (List ℕ)) : Type 0 where
+  pub groups : List (List Item)
+  pub whole : items f ≡ joined groups
+  pub parts : ps ≡ map texts groups
+
+-- "the bytes, last state and counts" of one call or of several
+pub record Total : Type 0 where
+  pub next : State
+  pub bytes : List ℕ
+  pub used : ℕ
+  pub items : ℕ
+
+-- what an accepted call of continued writing answers, with the bytes that then stand in its buffer
+abbrev pub totalOf : Call Continued → Checked Total
+totalOf c = c .answer >>= λ a. accepted (record { next = a .next; bytes = take (a .written) (c .buffer); used = a .used; items = a .items })
+
+-- "their bytes joined are its bytes, the last state is its next state, and the sums of items run and of values used are its counts"
+abbrev pub joinedTo : Total → Total → Total
+joinedTo t u = record { next = u .next; bytes = t .bytes ++ u .bytes; used = t .used + u .used; items = t .items + u .items }
+
+-- "The first gets the start state and the whole value list, each later one the state just returned and the fields after those used, each with a result buffer of its own": parts with their buffers; after a refusal "no later part is called"
+unfoldable pub inTurn : State → List ℕ → List (List ℕ × List ℕ) → Checked Total
+inTurn s l [] = accepted (record { next = s; bytes = []; used = 0; items = 0 })
+inTurn s l (p ∷ ps) = totalOf (packContinued s (p .0) l (p .1)) >>= λ t. inTurn (t .next) (fieldsAfter (t .used) l) ps >>= λ u. accepted (joinedTo t u)
+
+-- of a format and one or more parts
+pub record Cuts (f l b : List ℕ) (ps : List (List ℕ × List ℕ)) : Type 0 where
+  -- "continued writing of the parts in turn, from the start state, gives the bytes, last state and counts of one such call on the whole, or the same refusal"
+  pub parts : LongEnough (packContinued start f l b .answer) → LongEnough (inTurn start l ps) → totalOf (packContinued start f l b) ≡ inTurn start l ps
+  -- "Plain writing of F with the whole list gives that one call's bytes, or its refusal."
+  pub plain : stringPack f l b ≡ call (packContinued start f l b .answer >>= λ a. accepted (a .written)) (packContinued start f l b .buffer)
+
+-- a state that was returned and the list's rest are never refused by 21
+abbrev pub Returned : State → List ℕ → List ℕ → List ℕ → Type 0
+Returned s f l b = (a : Continued) → packContinued s f l b .answer ≡ accepted a → (g c : List ℕ) → packContinued (a .next) g (fieldsAfter (a .used) l) c .answer ≡ refused 21 → ⊥
+
+-- ---- the lent result buffer: of a call with any such buffer
+pub record Room {A : Type 0} (c : List ℕ → Call A) : Type 0 where
+  -- "a refusal changes no byte of any lent buffer"
+  pub unchanged : (b : List ℕ) (k : ℕ) → c b .answer ≡ refused k → c b .buffer ≡ b
+  -- "An accepted call changes only its result's bytes", at the buffer's front
+  pub front : (b : List ℕ) (a : A) → c b .answer ≡ accepted a → (s : List ℕ) × (length s ≤ length b) × (c b ≡ gives a s b)
+  -- no refusal but 22 depends on the buffer
+  pub others : (b d : List ℕ) (k : ℕ) → c b .answer ≡ refused k → (k ≡ 22 → ⊥) → c d .answer ≡ refused k
+  -- a call that gives 22 has a result s longer than the buffer, and is accepted with every buffer at least as long as s
+  pub longer : (b : List ℕ) → c b .answer ≡ refused 22 → (a : A) × (s : List ℕ) × (length b < length s) × ((d : List ℕ) → length s ≤ length d → c d ≡ gives a s d)
+
+-- ---- "an accepted reading's list is at most this long": the bound is accepted, or 9
+abbrev pub Bounded : List ℕ → List ℕ → ℤ → List ℕ → Type 0
+Bounded f d p b = (u : Unpacked) → stringUnpack f d p b .answer ≡ accepted u → ((n : ℕ) × (listBound f (length d) ≡ accepted n) × (u .length ≤ n)) ⊎ (listBound f (length d) ≡ refused 9)

@@ -1,0 +1,46 @@
+-- "Measuring": the format's checks, alignment and lengths; "Measuring leaves out values."
+use Prim.Native.Nat.{ℕ, _+_}
+use mathlib.Core.List.{List}
+use Rattle.definition.specs.Answers.{Checked, refused, accepted, _>>=_, run}
+use Rattle.definition.specs.Items.{Item, items}
+use Rattle.definition.specs.Ops.{opOf}
+use Rattle.definition.specs.States.{start, set, natural, padding, longer}
+use Rattle.definition.specs.declared.State.{State}
+use Rattle.definition.specs.declared.Field.{Field}
+use Rattle.definition.specs.declared.Field.the-variants.{Number, Chars, ZeroEnded, Counted}
+use Rattle.definition.specs.declared.Op.{Op}
+use Rattle.definition.specs.declared.Op.the-variants.{Blank, Set, Pad, Put}
+
+-- "10 z or s in measuring"
+abbrev pub sizeOf : Field → Checked ℕ
+sizeOf (Number k n) = accepted n
+sizeOf (Chars n) = accepted n
+sizeOf ZeroEnded = refused 10
+sizeOf (Counted n) = refused 10
+
+-- an alignment by n, and k bytes: 6, then 9
+abbrev pub measurePad : State → ℕ → ℕ → Checked State
+measurePad s n k = padding s n >>= λ p. longer s (p + k)
+
+unfoldable pub measureOp : State → Op → Checked State
+measureOp s Blank = accepted s
+measureOp s (Set x) = accepted (set x s)
+measureOp s (Pad n k) = measurePad s n k
+measureOp s (Put f) = sizeOf f >>= measurePad s (natural f)
+
+-- what a run that puts nothing out joins
+abbrev pub silent : Unit {0} → Unit {0} → Unit {0}
+silent a b = tt
+
+unfoldable pub measureItem : State → Item → Checked (State × Unit {0})
+measureItem s i = do
+  o ← opOf i
+  t ← measureOp s o
+  accepted (t, tt)
+
+abbrev pub measuring : State → List Item → Checked (State × Unit {0})
+measuring s is = run measureItem tt silent s is
+
+-- the size of a format
+unfoldable pub measure : List ℕ → Checked ℕ
+measure f = measuring start (items f) >>= λ r. accepted (r .0 .length)
