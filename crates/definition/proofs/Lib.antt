@@ -5,7 +5,6 @@ pub mod Cells
 pub mod Bytes
 pub mod Lists
 pub mod Floats
-pub mod Singles
 pub mod Texts
 pub mod Numbers
 pub mod Fields

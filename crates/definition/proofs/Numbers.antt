@@ -11,7 +11,9 @@ use lib.IntN.{ℤ, pos, negsuc}
 use lib.ListN.{replicate}
 use borrow.Author.Tests.{ltb-true, lt-ltb}
 use Rattle.single.specs.Single.{toSingle, fromSingle}
-use Rattle.single.proofs.Widen.{single-lt}
+use Rattle.single.proofs.Rounding.{single-lt}
+use Rattle.single.proofs.Widening.{double-lt}
+use Rattle.single.proofs.Back.{single-again}
 use Rattle.definition.specs.Answers.{Checked, refused, accepted, _>>=_, _>>_, require, orElse}
 use Rattle.definition.specs.Bytes.{bits, sign, extent, signed, low, coded}
 use Rattle.definition.specs.Values.{Value, integer, float, text, other, Held, asInteger, asNumber}
@@ -24,7 +26,6 @@ use Rattle.definition.specs.declared.Field.the-variants.{Number}
 use Rattle.definition.proofs.Answers.{never, same, bound, passed, found, true-not-false}
 use Rattle.definition.proofs.Bytes.{pow-pos, pow-le, length-coded, number-coded, all-replicate, bits-signed, bits-eight, signed-low, signed-bits, coded-same, bits-lt, extent-signed}
 use Rattle.definition.proofs.Floats.{integer-held, number-held}
-use Rattle.definition.proofs.Singles.{single-again, double-lt}
 use Rattle.definition.proofs.Texts.{Returns, low-lt}
 
 -- the sizes that the options of a kind have

@@ -8,6 +8,7 @@ use lib.IntN.{ℤ, pos, negsuc}
 use lib.ListN.{take, replicate}
 use lib.Ieee.{ofBits, toBits, ofInt, ofFields, odd, round, nanBits, size, span, climb, units}
 use lib.Count.{trailingZeros}
+use Rattle.single.specs.Single.{toSingle, fromSingle}
 use Rattle.definition.specs.Answers.{Checked, refused, accepted, _>>=_}
 use Rattle.definition.specs.Bytes.{bytes, little, total, signed, laid}
 use Rattle.definition.specs.Values.{Value, integer, float, text, other}
@@ -141,7 +142,7 @@ profiles =
     ∷ []
 
 pub profiles-hold : Hold profiles
-unfolding profiles little total signed laid listOf fieldOf valuesPast options entryOf digits nextByte taken itemsPast value numeralOf opOf longer alignment padding word encode number decode measureOp measureItem measure writeField writeOp writeItem readField readOp readItem read pack stringPack unpack stringUnpack ofBits toBits ofInt ofFields odd round nanBits size span climb units trailingZeros
+unfolding profiles little total signed laid listOf fieldOf valuesPast options entryOf digits nextByte taken itemsPast value numeralOf opOf longer alignment padding word encode number decode measureOp measureItem measure writeField writeOp writeItem readField readOp readItem read pack stringPack unpack stringUnpack toSingle fromSingle ofBits toBits ofInt ofFields odd round nanBits size span climb units trailingZeros
 profiles-hold = refl
 
 -- ---- what P1 to P14 leave out: traps, the order of checks, and inputs at which a mistake would show
@@ -256,5 +257,5 @@ more =
     ∷ []
 
 pub more-hold : Hold more
-unfolding more little total signed laid listOf fieldOf valuesPast options entryOf digits nextByte taken itemsPast value numeralOf opOf longer alignment padding word encode number decode kept measureOp measureItem measure writeField writeOp writeItem readField readOp readItem read boundOp boundItem bound listBound firstLine decimalIn printed pack packContinued stringPack unpack stringUnpack ofBits toBits ofInt ofFields odd round nanBits size span climb units trailingZeros
+unfolding more little total signed laid listOf fieldOf valuesPast options entryOf digits nextByte taken itemsPast value numeralOf opOf longer alignment padding word encode number decode kept measureOp measureItem measure writeField writeOp writeItem readField readOp readItem read boundOp boundItem bound listBound firstLine decimalIn printed pack packContinued stringPack unpack stringUnpack toSingle fromSingle ofBits toBits ofInt ofFields odd round nanBits size span climb units trailingZeros
 more-hold = refl

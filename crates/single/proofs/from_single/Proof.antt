@@ -1,0 +1,28 @@
+-- `single::from_single` meets its contract: the sign goes apart (`double-sign`), and the sum is below 2 ^ 64 as what it is equal to. Assumes nothing.
+use mathlib.Core.Path.{_≡_, sym, ap, _∙_}
+use Prim.Native.Nat.{ℕ, _+_, _*_, _/_, _^_}
+use borrow.Author.Needs.{needs}
+use Rattle.single.specs.Single.{fromSingle}
+use Rattle.single.proofs.Widening.{double-lt, double-sign}
+use Rattle.single.proofs.from_single.Statement.{statement}
+use Rattle.single.proofs.from_single.Tie as tie
+
+mul-result : tie.Need-mul-result
+mul-result c = search needs
+
+widened-requires : tie.Need-widened-requires
+widened-requires c κs = search needs
+
+sum : (c : tie.After-widened) → c .before .args .bits / 2 ^ 31 * 2 ^ 63 + c .widened .result ≡ fromSingle (c .before .args .bits)
+sum c =
+    let s = c .before in
+    ap (λ (r : ℕ). s .args .bits / 2 ^ 31 * 2 ^ 63 + r) (c .widened .ensures) ∙ sym (double-sign (s .args .bits) (s .fits .bits .fits))
+
+add-result : tie.Need-add-result
+add-result c = record { fits = rw (sum c) (double-lt (c .before .args .bits)) }
+
+returns : tie.Need-returns
+returns = sum
+
+pub from-single-spec : {M : Type 1} → statement M
+from-single-spec = tie.close (tie.spec mul-result widened-requires add-result returns)
