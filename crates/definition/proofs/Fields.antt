@@ -5,6 +5,7 @@ use mathlib.Core.Bool.{Bool, true}
 use mathlib.Core.List.{List}
 use lib.Dec.{T}
 use Rattle.definition.specs.Answers.{accepted}
+use Rattle.definition.specs.Ops.{within16}
 use Rattle.definition.specs.Values.{Value, Held}
 use Rattle.definition.specs.Fields.{encode}
 use Rattle.definition.specs.Claims.{isShort, integerForJ}
@@ -17,7 +18,7 @@ abbrev pub validField : Field → Bool
 validField (Number k n) = validSize k n
 validField (Chars n) = true
 validField ZeroEnded = true
-validField (Counted n) = true
+validField (Counted n) = within16 n
 
 pub field-back : (o : Bool) (f : Field) (v : Value) (bs : List ℕ) → T (validField f) → Held v → T (isShort f) → T (integerForJ f v) → encode o f v ≡ accepted bs → Returns o f v bs
 field-back o (Number k n) v bs ok held short j e = number-back o k n v bs ok held j e

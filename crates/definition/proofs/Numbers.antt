@@ -1,7 +1,7 @@
 -- A number is read back, and written again: every kind, and every size together.
 use Prim.Native.Nat.{ℕ, _*_, _-_, _%_, _^_, _≤_, _<_}
 use mathlib.Core.Path.{_≡_, refl, sym, ap, _∙_, subst}
-use mathlib.Core.Bool.{Bool, true, false}
+use mathlib.Core.Bool.{Bool, true, false, _&&_}
 use mathlib.Core.List.{List}
 use mathlib.Core.Option.{Option, none, some}
 use native.Mathlib.Nat.{mod-eq-of-lt, mod-lt, mod-mod, lt-of-lt-of-le}
@@ -9,12 +9,13 @@ use native.Mathlib.Omega.{arith}
 use lib.Dec.{T, leb, ltb, eqb, leb→le, ltb→lt, eqb→eq, lit<, lit≤}
 use lib.IntN.{ℤ, pos, negsuc}
 use lib.ListN.{replicate}
-use borrow.Author.Tests.{ltb-true, lt-ltb}
+use borrow.Author.Tests.{leb-true, ltb-true}
 use Rattle.single.specs.Single.{toSingle, fromSingle}
 use Rattle.single.proofs.Rounding.{single-lt}
 use Rattle.single.proofs.Widening.{double-lt}
 use Rattle.single.proofs.Back.{single-again}
 use Rattle.definition.specs.Answers.{Checked, refused, accepted, _>>=_, _>>_, require, orElse}
+use Rattle.definition.specs.Ops.{within16}
 use Rattle.definition.specs.Bytes.{bits, sign, extent, signed, low, coded}
 use Rattle.definition.specs.Values.{Value, integer, float, text, other, Held, asInteger, asNumber}
 use Rattle.definition.specs.Fields.{inSigned, inUnsigned, floatBy, integerOr, word, encode, decode, valueBy, keptNumber, kept}
@@ -32,8 +33,8 @@ use Rattle.definition.proofs.Texts.{Returns, low-lt}
 abbrev pub validSize : Kind → ℕ → Bool
 validSize SmallSigned n = leb n 8
 validSize SmallUnsigned n = ltb n 8
-validSize Signed n = leb 1 n
-validSize Unsigned n = true
+validSize Signed n = within16 n
+validSize Unsigned n = within16 n
 validSize LuaInteger n = eqb n 8
 validSize LuaUnsigned n = eqb n 8
 validSize Size n = leb n 8
@@ -121,6 +122,13 @@ double o b h = record { gives = rw (mod-eq-of-lt h); y = pos b; again = refl; by
 
 -- ---- the integers that the kinds write
 
+within-from-1 : (n : ℕ) → T (within16 n) → 1 ≤ n
+within-from-1 n h = go (leb 1 n) refl h
+  where
+    go : (t : Bool) → leb 1 n ≡ t → T (t && leb n 16) → 1 ≤ n
+    go true e h = leb-true 1 n e
+    go false e h = absurd h
+
 -- an integer, or a float's bits, are 64 bits
 bits-held : (m : Option ℤ) (v : Value) (z : ℤ) → ((y : ℤ) → m ≡ some y → extent y < 2 ^ 63) → Held v → orElse m (floatBy (λ b. b) v) ≡ accepted z → bits z < 2 ^ 64
 bits-held (some y) v z f held e = subst (λ (x : ℤ). bits x < 2 ^ 64) (same e) (bits-lt y (f y refl))
@@ -145,7 +153,7 @@ unfolding word
 number-kept o SmallSigned n v z ok held j e = small-signed o n z (leb→le n 8 ok)
 number-kept o SmallUnsigned n v z ok held j e = small-unsigned o n z (ltb→lt n 8 ok)
 number-kept o Signed n v z ok held j e =
-    ranged o Signed n (orElse (asInteger v) (refused 12)) (inSigned n) z (λ y is t. signed-kept o n y (leb→le 1 n ok) (integer-held v y held (found (asInteger v) is)) t) e
+    ranged o Signed n (orElse (asInteger v) (refused 12)) (inSigned n) z (λ y is t. signed-kept o n y (within-from-1 n ok) (integer-held v y held (found (asInteger v) is)) t) e
 number-kept o Unsigned n v z ok held j e =
     ranged o Unsigned n (orElse (asInteger v) (refused 12)) (inUnsigned n) z (λ y is t. unsigned-kept o n y (integer-held v y held (found (asInteger v) is)) t) e
 number-kept o LuaInteger n v z ok held j e =

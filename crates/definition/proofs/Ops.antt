@@ -36,7 +36,7 @@ validOp (Op.Set x) = validSetting x
 validOp (Op.Pad n k) = true
 validOp (Op.Put f) = validField f
 
--- i I l L have any size from 1 on
+-- i I l L have any size of 1 to 16
 abbrev anySize : Kind → Bool
 anySize SmallSigned = false
 anySize SmallUnsigned = false
@@ -90,15 +90,11 @@ entry-ok : (b : ℕ) → T (ok (entryOf b))
 unfolding options entryOf
 entry-ok b = find-every ok b options tt tt
 
-both-left : (a b : Bool) → (a && b) ≡ true → a ≡ true
-both-left true b e = refl
-both-left false b e = e
-
-size-from-1 : (d : ℕ) (m : Numeral) (n : ℕ) → sizeOr d m ≡ accepted n → leb 1 n ≡ true
-size-from-1 d m n e =
+size-within : (d : ℕ) (m : Numeral) (n : ℕ) → sizeOr d m ≡ accepted n → T (within16 n)
+size-within d m n e =
     let b = bound (valueOr d m) (λ x. require (within16 x) 3 >> accepted x) e in
     let p = passed (within16 (b .val)) 3 (accepted (b .val)) (b .rest) in
-    subst (λ (x : ℕ). leb 1 x ≡ true) (same (p .1)) (both-left (leb 1 (b .val)) (leb (b .val) 16) (p .0))
+    subst (λ (x : ℕ). T (within16 x)) (same (p .1)) (subst T (sym (p .0)) tt)
 
 limit-power : (d : ℕ) (m : Numeral) (n : ℕ) → limitOr d m ≡ accepted n → T (isPower n)
 limit-power d m n e =
@@ -107,11 +103,11 @@ limit-power d m n e =
     let p = passed (isPower (b .val)) 5 (accepted (b .val)) (c .1) in
     subst (λ (x : ℕ). T (isPower x)) (same (p .1)) (subst T (sym (p .0)) tt)
 
-any-size : (k : Kind) (n : ℕ) → T (anySize k) → leb 1 n ≡ true → T (validSize k n)
+any-size : (k : Kind) (n : ℕ) → T (anySize k) → T (within16 n) → T (validSize k n)
 any-size SmallSigned n a e = absurd a
 any-size SmallUnsigned n a e = absurd a
-any-size Signed n a e = subst T (sym e) tt
-any-size Unsigned n a e = tt
+any-size Signed n a e = e
+any-size Unsigned n a e = e
 any-size LuaInteger n a e = absurd a
 any-size LuaUnsigned n a e = absurd a
 any-size Size n a e = absurd a
@@ -137,7 +133,9 @@ by-class (Class.Number k) d m o h e =
     subst Good (same (b .rest)) (h k refl (b .val) (b .is))
 by-class Class.Chars d m o h e = subst Good (same (bound (needed m) (λ n. accepted (Op.Put (Chars n))) e .rest)) tt
 by-class Class.ZeroEnded d m o h e = subst Good (same e) tt
-by-class Class.Counted d m o h e = subst Good (same (bound (sizeOr d m) (λ n. accepted (Op.Put (Counted n))) e .rest)) tt
+by-class Class.Counted d m o h e =
+    let b = bound (sizeOr d m) (λ n. accepted (Op.Put (Counted n))) e in
+    subst Good (same (b .rest)) (size-within d m (b .val) (b .is))
 by-class Class.Fill d m o h e = subst Good (same e) tt
 by-class Class.Align d m o h e = absurd (never e)
 
@@ -152,7 +150,7 @@ own-size c r d f h k e n s =
 by-rule : (r : NumeralRule) (e : Entry) (s : List ℕ) (o : Op) → T (entryOk (e .class) r (e .size)) → opWith r e s ≡ accepted o → T (validOp o)
 by-rule Nothing e s o h i = by-class (e .class) (e .size) Missing o (own-size (e .class) Nothing (e .size) (λ k g. g) h) i
 by-rule Digits e s o h i =
-    by-class (e .class) (e .size) (numeralOf s) o (λ k c n m. any-size k n (subst (λ (x : Class). T (entryOk x Digits (e .size))) c h) (size-from-1 (e .size) (numeralOf s) n m)) i
+    by-class (e .class) (e .size) (numeralOf s) o (λ k c n m. any-size k n (subst (λ (x : Class). T (entryOk x Digits (e .size))) c h) (size-within (e .size) (numeralOf s) n m)) i
 by-rule DigitsBehindX e s o h i = by-class (e .class) (e .size) Missing o (own-size (e .class) DigitsBehindX (e .size) (λ k g. g) h) i
 by-rule NextByte e s o h i = subst Good (same (bound (naturalOf s) (λ n. accepted (Op.Pad n 0)) i .rest)) tt
 
