@@ -1,9 +1,9 @@
 -- Continued writing of a format's parts in turn, each with a buffer of its own, is one call on the format.
 use Prim.Native.Nat.{ℕ, _+_}
-use native.Mathlib.Nat.{zero-add, add-assoc}
+use native.Mathlib.Nat.{zero-add, add-zero, add-assoc}
 use mathlib.Core.Path.{_≡_, refl, sym, ap, _∙_, subst}
 use mathlib.Core.Bool.{Bool, true, false, _&&_, cond}
-use mathlib.Core.List.{List, [], _∷_, _++_, map, append-assoc}
+use mathlib.Core.List.{List, [], _∷_, _++_, map, append-assoc, append-nil}
 use lib.Dec.{leb}
 use lib.ListN.{length, take, length-append}
 use Rattle.definition.specs.Answers.{Checked, refused, accepted, _>>=_, _>>_, require, after}
@@ -22,11 +22,15 @@ use Rattle.definition.proofs.Cells.{map-append}
 use Rattle.definition.proofs.Parts.{runs, cut-anywhere}
 use Rattle.definition.proofs.Calls.{Sound, start-sound, pack-run, run-sound, run-left, Packed, packed, next-sound, next-values, totalOfRun, total-long}
 
-left : (o : Output) → nothing ⊕ o ≡ o
-left o = λ i. record { cells = o .cells; took = o .took; items = zero-add (o .items) i }
+-- ---- outputs, joined
+pub nothing-left : (o : Output) → nothing ⊕ o ≡ o
+nothing-left o = λ i. record { cells = o .cells; took = o .took; items = zero-add (o .items) i }
 
-assoc : (a b c : Output) → (a ⊕ b) ⊕ c ≡ a ⊕ (b ⊕ c)
-assoc a b c = λ i. record { cells = append-assoc (a .cells) (b .cells) (c .cells) i; took = append-assoc (a .took) (b .took) (c .took) i; items = add-assoc (a .items) (b .items) (c .items) i }
+pub nothing-right : (o : Output) → o ⊕ nothing ≡ o
+nothing-right o = λ i. record { cells = append-nil (o .cells) i; took = append-nil (o .took) i; items = add-zero (o .items) i }
+
+pub join-assoc : (a b c : Output) → (a ⊕ b) ⊕ c ≡ a ⊕ (b ⊕ c)
+join-assoc a b c = λ i. record { cells = append-assoc (a .cells) (b .cells) (c .cells) i; took = append-assoc (a .took) (b .took) (c .took) i; items = add-assoc (a .items) (b .items) (c .items) i }
 
 -- ---- without buffers
 
@@ -71,7 +75,7 @@ unfolding pack
 total-parts s f l p ps d h = go (values l) refl
   where
     go : (c : Checked (List Value)) → values l ≡ c → total s f l ≡ totals s l (p ∷ ps)
-    go (accepted vs) e = ap (λ (c : Checked (Place Value × Output)). c >>= λ r. accepted (totalOfRun r)) (pack-run s f l vs h e ∙ cut-anywhere writeItem nothing _⊕_ left assoc (place s vs) f (p ∷ ps) d) ∙ parts-total (p ∷ ps) s l vs h e
+    go (accepted vs) e = ap (λ (c : Checked (Place Value × Output)). c >>= λ r. accepted (totalOfRun r)) (pack-run s f l vs h e ∙ cut-anywhere writeItem nothing _⊕_ nothing-left join-assoc (place s vs) f (p ∷ ps) d) ∙ parts-total (p ∷ ps) s l vs h e
     go (refused k) e = rw (h, e)
 
 -- ---- with buffers that are long enough
@@ -100,7 +104,7 @@ turns-long (p ∷ ps) s l h =
     go (refused k) h ih = refl
     go (accepted t) h ih = rw (ih (t .next) (fieldsAfter (t .used) l) (long-first (inTurn (t .next) (fieldsAfter (t .used) l) ps) (λ u. accepted (joinedTo t u)) h))
 
-plain-is : (f l b : List ℕ) → stringPack f l b ≡ call (packContinued start f l b .answer >>= λ a. accepted (a .written)) (packContinued start f l b .buffer)
+pub plain-is : (f l b : List ℕ) → stringPack f l b ≡ call (packContinued start f l b .answer >>= λ a. accepted (a .written)) (packContinued start f l b .buffer)
 unfolding stringPack packContinued
 plain-is f l b = go (pack start f l)
   where

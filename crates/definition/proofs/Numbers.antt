@@ -122,7 +122,7 @@ double o b h = record { gives = rw (mod-eq-of-lt h); y = pos b; again = refl; by
 
 -- ---- the integers that the kinds write
 
-within-from-1 : (n : ℕ) → T (within16 n) → 1 ≤ n
+pub within-from-1 : (n : ℕ) → T (within16 n) → 1 ≤ n
 within-from-1 n h = go (leb 1 n) refl h
   where
     go : (t : Bool) → leb 1 n ≡ t → T (t && leb n 16) → 1 ≤ n

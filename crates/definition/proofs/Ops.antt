@@ -33,7 +33,7 @@ validSetting (Setting.Limit n) = isPower n
 abbrev pub validOp : Op → Bool
 validOp Op.Blank = true
 validOp (Op.Set x) = validSetting x
-validOp (Op.Pad n k) = true
+validOp (Op.Pad n k) = leb k 1
 validOp (Op.Put f) = validField f
 
 -- i I l L have any size of 1 to 16

@@ -17,11 +17,11 @@ module _ {S I O : Type 0} (step : S → I → Checked (S × O)) (nothing : O) (_
 module _ {S I O : Type 0} (step : S → I → Checked (S × O)) (nothing : O) (_⊕_ : O → O → O)
     (left : (o : O) → nothing ⊕ o ≡ o) (assoc : (a b c : O) → (a ⊕ b) ⊕ c ≡ a ⊕ (b ⊕ c)) where
   infixl 60 _⊕_
-  after-nothing : (c : Checked (S × O)) → c ≡ after step nothing _⊕_ nothing c
+  pub after-nothing : (c : Checked (S × O)) → c ≡ after step nothing _⊕_ nothing c
   after-nothing (refused k) = refl
   after-nothing (accepted a) = rw (left (a .1))
 
-  after-after : (a b : O) (c : Checked (S × O)) → after step nothing _⊕_ a (after step nothing _⊕_ b c) ≡ after step nothing _⊕_ (a ⊕ b) c
+  pub after-after : (a b : O) (c : Checked (S × O)) → after step nothing _⊕_ a (after step nothing _⊕_ b c) ≡ after step nothing _⊕_ (a ⊕ b) c
   after-after a b (refused k) = refl
   after-after a b (accepted r) = rw (assoc a b (r .1))
 

@@ -55,7 +55,7 @@ taken-first : (l : List Value) (t : Value × List Value) → taking l ≡ accept
 taken-first [] t e = absurd (never e)
 taken-first (v ∷ vs) t e = let q : (v, vs) ≡ t = same e in ap (λ (x : Value × List Value). x .0 ∷ x .1) q
 
-abbrev Stepped : Place Value → Op → Place Value × Output → Type 0
+abbrev pub Stepped : Place Value → Op → Place Value × Output → Type 0
 Stepped r o q = Step r o (q .0) (q .1)
 
 pad-step : (r : Place Value) (n k : ℕ) (q : Place Value × Output) → writePad r n k ≡ accepted q → Stepped r (Op.Pad n k) q
@@ -77,7 +77,7 @@ field-step r f q e =
     subst (Stepped r (Op.Put f)) (rw (w .1) (same (h .rest)))
     (puts f (b .val) (c .val) (d .val .0) (d .val .1) (g .val) (b .is) (c .is) (taken-first (r .left) (d .val) (d .is)) (g .is) (w .0))
 
-step-of : (r : Place Value) (o : Op) (q : Place Value × Output) → writeOp r o ≡ accepted q → Stepped r o q
+pub step-of : (r : Place Value) (o : Op) (q : Place Value × Output) → writeOp r o ≡ accepted q → Stepped r o q
 unfolding writeOp
 step-of r Op.Blank q e = subst (Stepped r Op.Blank) (same e) blank
 step-of r (Op.Set x) q e = subst (Stepped r (Op.Set x)) (same e) (sets x)
