@@ -1,18 +1,18 @@
 -- Laws of the bytes of an integer, for every size together.
-use Prim.Native.Nat.{ℕ, zero, suc, _+_, _*_, _-_, _/_, _%_, _^_, _≤_, _<_, min}
+use Prim.Native.Nat.{ℕ, zero, suc, _+_, _*_, _-_, _/_, _%_, _^_, _≤_, _<_}
 use mathlib.Core.Path.{_≡_, refl, sym, ap, _∙_, subst}
 use mathlib.Core.Bool.{Bool, true, false, cond}
-use mathlib.Core.List.{List, [], _∷_, _++_, reverse, reverse-reverse}
-use native.Mathlib.Nat.{add-zero, add-suc, le-refl, mod-one, pow-suc, suc-mul, mod-eq-of-lt, mod-lt, mod-mod, not-suc-le-zero}
+use mathlib.Core.List.{List, [], _∷_, _++_, reverse-reverse}
+use native.Mathlib.Nat.{add-zero, add-suc, le-refl, le-of-suc-le-suc, mod-one, pow-suc, pow-succ', suc-mul, mul-assoc, mod-eq-of-lt, mod-lt, div-one, div-div-eq-div-mul, not-suc-le-zero}
 use native.Mathlib.Omega.{arith}
-use lib.Dec.{leb, ltb, eqb, lit<, lit≤}
+use lib.Dec.{leb, ltb, lit<, lit≤}
 use lib.Arith.{mod-mul, digits-mod, digits-div}
 use lib.Pow.{pow-add}
 use lib.IntN.{ℤ, pos, negsuc}
-use lib.ListN.{length, take, drop, replicate, length-append, length-replicate, length-reverse}
-use lib.Seq.{take-at, drop-at}
+use lib.ListN.{length, getD, take, drop, replicate, length-append, length-drop, length-replicate, length-reverse}
+use lib.Seq.{take-at, drop-at, getD-take, getD-drop, length-take-le}
 use borrow.Author.Tests.{ltb-true, ltb-false, lt-ltb, le-ltb, le-leb, eq-eqb}
-use Rattle.definition.specs.Answers.{Checked, refused, accepted, _>>=_, _>>_, require}
+use Rattle.definition.specs.Answers.{accepted}
 use Rattle.definition.specs.Bytes.{little, total, ordered, bits, sign, extent, signed, low, laid, coded}
 use Rattle.definition.specs.Lists.{front}
 use Rattle.definition.specs.Fields.{first, number, all}
@@ -46,17 +46,39 @@ little-mod (suc n) v =
 pub little-same : (n v w : ℕ) → v % 256 ^ n ≡ w % 256 ^ n → little n v ≡ little n w
 little-same n v w e = sym (little-mod n v) ∙ ap (little n) e ∙ little-mod n w
 
+-- the byte k
+pub little-at : (n v k : ℕ) → k < n → getD (little n v) k 0 ≡ v / 256 ^ k % 256
+unfolding little
+little-at zero v k h = absurd (not-suc-le-zero h)
+little-at (suc n) v zero h = ap (λ (x : ℕ). x % 256) (sym (div-one v))
+little-at (suc n) v (suc k) h =
+    little-at n (v / 256) k (le-of-suc-le-suc h)
+    ∙ ap (λ (x : ℕ). x % 256) (div-div-eq-div-mul v 256 (256 ^ k) ∙ ap (λ (x : ℕ). v / x) (sym (pow-succ' 256 k)))
+
+-- one byte more, which counts 256 ^ k
+pub total-more : (s : List ℕ) (k : ℕ) → k < length s → total (take (suc k) s) ≡ total (take k s) + getD s k 0 * 256 ^ k
+unfolding total
+total-more [] k h = absurd (not-suc-le-zero h)
+total-more (b ∷ s) zero h = omega arith
+total-more (b ∷ s) (suc k) h =
+    let x : ℕ = getD s k 0 in
+    let p : x * 256 ^ suc k ≡ x * 256 ^ k * 256 = ap (λ (y : ℕ). x * y) (pow-suc 256 k) ∙ sym (mul-assoc x (256 ^ k) 256) in
+    omega (arith, total-more s k (le-of-suc-le-suc h), p)
+
 ordered-twice : (o : Bool) (l : List ℕ) → ordered o (ordered o l) ≡ l
 ordered-twice false l = refl
 ordered-twice true l = reverse-reverse l
 
-length-ordered : (o : Bool) (l : List ℕ) → length (ordered o l) ≡ length l
+pub length-ordered : (o : Bool) (l : List ℕ) → length (ordered o l) ≡ length l
 length-ordered false l = refl
 length-ordered true l = length-reverse l
 
-pub length-coded : (o : Bool) (n : ℕ) (z : ℤ) → length (coded o n z) ≡ n
+pub length-laid : (o : Bool) (n w b : ℕ) → length (laid o n w b) ≡ n
 unfolding laid
-length-coded o n z = length-ordered o _ ∙ length-append (little (low n) (bits z)) (replicate (n - 8) (sign z)) ∙ simp (length-little, length-replicate) (omega arith)
+length-laid o n w b = length-ordered o _ ∙ length-append (little (low n) w) (replicate (n - 8) b) ∙ simp (length-little, length-replicate) (omega arith)
+
+pub length-coded : (o : Bool) (n : ℕ) (z : ℤ) → length (coded o n z) ≡ n
+length-coded o n z = length-laid o n (bits z) (sign z)
 
 pub front-of : (k : ℕ) (x rest : List ℕ) (n : ℕ) → length x ≡ n → front k n (x ++ rest) ≡ accepted x
 front-of k x rest n e =
@@ -76,6 +98,18 @@ unfolding number
 number-coded o n z post =
     let l = length-little (low n) (bits z) in
     rw (first-of (coded o n z) post n (length-coded o n z), in-order o n z, take-at (little (low n) (bits z)) (replicate (n - 8) (sign z)) (low n) l, drop-at (little (low n) (bits z)) (replicate (n - 8) (sign z)) (low n) l, total-little (low n) (bits z))
+
+-- n bytes of d from `at` on
+pub length-part : (n at : ℕ) (d : List ℕ) → at + n ≤ length d → length (take n (drop at d)) ≡ n
+length-part n at d h = length-take-le n (drop at d) (rw (length-drop at d) (omega arith))
+
+pub part-at : (n at k : ℕ) (d : List ℕ) → k < n → getD (take n (drop at d)) k 0 ≡ getD d (at + k) 0
+part-at n at k d h = getD-take n (drop at d) k 0 h ∙ getD-drop at d k 0
+
+-- what is read of them, where the data don't end
+pub number-is : (o : Bool) (n at : ℕ) (d : List ℕ) → at + n ≤ length d → number o n (drop at d) ≡ accepted (total (take (low n) (ordered o (take n (drop at d)))), drop (low n) (ordered o (take n (drop at d))))
+unfolding number
+number-is o n at d h = rw (le-leb n (length (drop at d)) (rw (length-drop at d) (omega arith)))
 
 pub all-replicate : (n f : ℕ) → all f (replicate n f) ≡ true
 all-replicate zero f = refl
@@ -119,6 +153,10 @@ bits-eight u h = go (ltb (u * 2) (256 ^ 8))
 pub signed-low : (m u : ℕ) → u * 2 < 256 ^ m → signed m u ≡ pos u
 unfolding signed
 signed-low m u h = rw (lt-ltb (u * 2) (256 ^ m) h)
+
+pub signed-high : (m u : ℕ) → 256 ^ m ≤ u * 2 → signed m u ≡ negsuc (256 ^ m - 1 - u)
+unfolding signed
+signed-high m u h = rw (le-ltb (u * 2) (256 ^ m) h)
 
 -- an integer in the range of m bytes, from its bits there
 pub signed-bits : (m : ℕ) (z : ℤ) → 1 ≤ m → m ≤ 8 → extent z * 2 < 256 ^ m → signed m (bits z % 256 ^ m) ≡ z

@@ -1,21 +1,21 @@
 -- Laws of the value list: the list of values is read as these values; what a list holds; the values after some fields.
-use Prim.Native.Nat.{ℕ, zero, suc, _+_, _*_, _-_, _%_, _^_, _≤_, _<_}
+use Prim.Native.Nat.{ℕ, zero, suc, _+_, _-_, _^_, _≤_, _<_}
 use mathlib.Core.Path.{_≡_, refl, sym, ap, _∙_, subst}
 use mathlib.Core.Bool.{Bool, true, false, cond}
-use mathlib.Core.List.{List, [], _∷_, _++_, reverse, reverse-reverse, reverse-cons, append-assoc}
+use mathlib.Core.List.{List, [], _∷_, _++_, reverse, reverse-reverse, reverse-cons, append-assoc, append-nil}
 use native.Mathlib.Nat.{mod-eq-of-lt, pow-suc}
 use native.Mathlib.Omega.{arith}
-use lib.Dec.{T, leb, ltb, eqb, lit<, lit≤}
-use lib.IntN.{ℤ, pos, negsuc}
+use lib.Dec.{leb, eqb, lit<, lit≤}
+use lib.IntN.{ℤ}
 use lib.ListN.{length, take, drop, length-reverse, length-append, take-append-drop}
 use lib.Seq.{drop-at, drop-nil, length-take-le}
-use borrow.Author.Tests.{leb-true, eqb-true, ltb-true, ltb-false}
-use Rattle.definition.specs.Answers.{Checked, refused, accepted, _>>=_, _>>_, require}
-use Rattle.definition.specs.Bytes.{IsByte, little, total, bits, extent, signed}
+use borrow.Author.Tests.{leb-true, eqb-true}
+use Rattle.definition.specs.Answers.{refused, accepted, _>>_, require}
+use Rattle.definition.specs.Bytes.{IsByte, little, total, bits, signed, low, laid}
 use Rattle.definition.specs.Values.{Value, integer, float, text, other, Held}
 use Rattle.definition.specs.Lists.{big, bigTotal, tag, content, listOf, valueOf, front, fieldOf, valuesPast, values, fieldsAfter}
 use Rattle.definition.specs.Claims.{All}
-use Rattle.definition.proofs.Answers.{never, same, Bound, bound, passed}
+use Rattle.definition.proofs.Answers.{never, same, bound, passed}
 use Rattle.definition.proofs.Cells.{all-left, all-right, all-append}
 use Rattle.definition.proofs.Bytes.{length-little, total-little, front-of, bits-lt, extent-signed, signed-eight}
 
@@ -30,6 +30,14 @@ big-total n v h = ap total (reverse-reverse (little n v)) ∙ total-little n v �
 
 pub length-big : (n v : ℕ) → length (big n v) ≡ n
 length-big n v = length-reverse (little n v) ∙ length-little n v
+
+-- up to eight bytes an integer, the highest byte first, is the bytes of a number
+pub laid-big : (n w b : ℕ) → n ≤ 8 → laid true n w b ≡ big n w
+unfolding laid
+laid-big n w b h =
+    let l : low n ≡ n = omega arith in
+    let k : n - 8 ≡ 0 = omega arith in
+    rw (l, k, append-nil (little n w))
 
 value-of : (v : Value) → Held v → valueOf (tag v) (content v) ≡ accepted v
 value-of (integer z) h = rw (length-big 8 (bits z), big-total 8 (bits z) (bits-lt z h)) (ap (λ (y : ℤ). accepted (integer y)) (signed-eight z h))
@@ -178,6 +186,17 @@ values-after (suc k) (t ∷ s) vs e =
     let n : 2 + bigTotal (take 2 s) ≡ f .count = ap (λ (x : ℕ). 2 + x) (sym (p .counted)) ∙ ap (λ (x : Value × ℕ). x .1) (p .result) in
     let rest : values (drop (2 + bigTotal (take 2 s)) s) ≡ accepted (f .more) = ap (λ (x : ℕ). values (drop x s)) n ∙ f .rest in
     values-after k (drop (2 + bigTotal (take 2 s)) s) (f .more) rest ∙ ap (λ (x : List Value). accepted (drop (suc k) x)) (f .whole)
+
+-- ---- the list after some fields
+pub none-after : (k : ℕ) → fieldsAfter k [] ≡ []
+unfolding fieldsAfter
+none-after zero = refl
+none-after (suc k) = refl
+
+pub after-first : (k : ℕ) (s : List ℕ) → fieldsAfter (suc k) s ≡ fieldsAfter k (drop (3 + bigTotal (take 2 (drop 1 s))) s)
+unfolding fieldsAfter
+after-first k [] = sym (ap (fieldsAfter k) (drop-nil (3 + bigTotal [])) ∙ none-after k)
+after-first k (t ∷ s) = let e : 3 + bigTotal (take 2 s) ≡ suc (2 + bigTotal (take 2 s)) = omega arith in rw e
 
 -- ---- lengths
 pub length-list : (v : Value) (vs : List Value) → length (listOf (v ∷ vs)) ≡ 3 + length (content v) + length (listOf vs)

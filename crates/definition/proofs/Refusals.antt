@@ -1,11 +1,11 @@
--- Writing and reading refuse by numbers below 21, and the calls, but for the result buffer, by numbers below 22.
-use Prim.Native.Nat.{ℕ, zero, suc, _+_, _-_, _^_, _≤_, _<_, min}
+-- Writing and reading refuse by numbers below 21, a value list by 21, and the calls, but for the result buffer, by numbers below 22.
+use Prim.Native.Nat.{ℕ, zero, suc, _+_, _-_, _^_, _<_, min}
 use native.Mathlib.Omega.{arith}
 use mathlib.Core.Path.{_≡_, sym}
 use mathlib.Core.Bool.{Bool, true, false, _&&_, not, cond}
 use mathlib.Core.List.{List, [], _∷_, _++_}
 use mathlib.Core.Option.{Option, none, some}
-use lib.Dec.{T, leb, ltb, eqb, ltb→lt, lt→ltb}
+use lib.Dec.{T, leb, ltb, eqb, ltb→lt, lt→ltb, eqb→eq}
 use lib.IntN.{ℤ, pos, negsuc}
 use lib.ListN.{length, take, drop}
 use Rattle.definition.specs.Answers.{Checked, refused, accepted, _>>=_, _>>_, require, orElse, after, run}
@@ -16,7 +16,7 @@ use Rattle.definition.specs.Values.{Value, integer, float, text, other, 
 use Rattle.definition.specs.Bytes.{sign, signed, low as lowOf, coded}
 use Rattle.definition.specs.States.{further, longer, natural, alignment, padding}
 use Rattle.definition.specs.Fields.{inSigned, inUnsigned, floatBy, integerOr, word, filled, hasZero, encode, all, first, short, upToZero, number, signedValue, unsigned, unsignedValue, valueBy, decode}
-use Rattle.definition.specs.Writing.{Output, nothing, _⊕_, Place, taking, early, writePad, writeField, writeOp, writeItem, writing, write}
+use Rattle.definition.specs.Writing.{nothing, _⊕_, Place, taking, early, writeField, writeOp, writeItem, writing, write}
 use Rattle.definition.specs.Reading.{readPad, readField, readOp, readItem, reading, offset, offsetOf, readFrom, read}
 use Rattle.definition.specs.Lists.{bigTotal, front, valueOf, fieldOf, valuesPast, values}
 use Rattle.definition.specs.Calls.{atMost63, pack, unpack}
@@ -36,31 +36,46 @@ use Rattle.definition.specs.declared.Field.the-variants.{Number, Chars, 
 use Rattle.definition.specs.declared.Op.{Op}
 use Rattle.definition.specs.declared.Op.the-variants as Op
 
+-- a refusal's number passes a test
+pub data Refuses (test : ℕ → Bool) {A : Type 0} : Checked A → Type 0 where
+  low : {k : ℕ} → T (test k) → Refuses test (refused k)
+  fine : {a : A} → Refuses test (accepted a)
+
 -- a refusal is below n
-pub data Below (n : ℕ) {A : Type 0} : Checked A → Type 0 where
-  low : {k : ℕ} → T (ltb k n) → Below n (refused k)
-  fine : {a : A} → Below n (accepted a)
+abbrev pub Below : {A : Type 0} → ℕ → Checked A → Type 0
+Below n c = Refuses (λ k. ltb k n) c
 
-low-bind : {n : ℕ} {A B : Type 0} (c : Checked A) (f : A → Checked B) → Below n c → ((a : A) → Below n (f a)) → Below n (c >>= f)
-low-bind (refused k) f (low h) g = low h
-low-bind (accepted a) f h g = g a
+-- a refusal is 21
+abbrev pub By21 : {A : Type 0} → Checked A → Type 0
+By21 c = Refuses (λ k. eqb k 21) c
 
--- a check, and what follows it
-low-check : {n : ℕ} {B : Type 0} (t : Bool) (k : ℕ) (d : Checked B) → T (ltb k n) → Below n d → Below n (require t k >> d)
-low-check true k d h g = g
-low-check false k d h g = low h
+module _ {test : ℕ → Bool} where
+  low-bind : {A B : Type 0} (c : Checked A) (f : A → Checked B) → Refuses test c → ((a : A) → Refuses test (f a)) → Refuses test (c >>= f)
+  low-bind (refused k) f (low h) g = low h
+  low-bind (accepted a) f h g = g a
 
-low-else : {n : ℕ} {A : Type 0} (m : Option A) (c : Checked A) → Below n c → Below n (orElse m c)
-low-else (some a) c h = fine
-low-else none c h = h
+  -- a check, and what follows it
+  low-check : {B : Type 0} (t : Bool) (k : ℕ) (d : Checked B) → T (test k) → Refuses test d → Refuses test (require t k >> d)
+  low-check true k d h g = g
+  low-check false k d h g = low h
 
-low-cond : {n : ℕ} {A : Type 0} (t : Bool) (c d : Checked A) → Below n c → Below n d → Below n (cond t c d)
-low-cond true c d h g = h
-low-cond false c d h g = g
+  low-else : {A : Type 0} (m : Option A) (c : Checked A) → Refuses test c → Refuses test (orElse m c)
+  low-else (some a) c h = fine
+  low-else none c h = h
 
-low-up : {A : Type 0} (c : Checked A) → Below 21 c → Below 22 c
-low-up (refused k) (low h) = low (lt→ltb k 22 (let m : k < 21 = ltb→lt k 21 h in omega arith))
-low-up (accepted a) h = fine
+  low-cond : {A : Type 0} (t : Bool) (c d : Checked A) → Refuses test c → Refuses test d → Refuses test (cond t c d)
+  low-cond true c d h g = h
+  low-cond false c d h g = g
+
+  low-up : {A : Type 0} {weaker : ℕ → Bool} (c : Checked A) → ((k : ℕ) → T (test k) → T (weaker k)) → Refuses test c → Refuses weaker c
+  low-up (refused k) w (low h) = low (w k h)
+  low-up (accepted a) w h = fine
+
+up-22 : (k : ℕ) → T (ltb k 21) → T (ltb k 22)
+up-22 k h = lt→ltb k 22 (let m : k < 21 = ltb→lt k 21 h in omega arith)
+
+below-22 : (k : ℕ) → T (eqb k 21) → T (ltb k 22)
+below-22 k h = lt→ltb k 22 (let m : k ≡ 21 = eqb→eq k 21 h in omega arith)
 
 module _ {S I O : Type 0} (step : S → I → Checked (S × O)) (nothing : O) (_⊕_ : O → O → O) (steps : (s : S) (i : I) → Below 21 (step s i)) where
   infixl 60 _⊕_
@@ -258,35 +273,39 @@ low-read-item r i = low-bind (opOf i) (readOp r) (low-op i) (low-read-op r)
 pub low-reading : (r : Place ℕ) (is : List Item) → Below 21 (reading r is)
 low-reading = low-run readItem [] _++_ low-read-item
 
--- ---- the calls
-low-front : (n : ℕ) (s : List ℕ) → Below 22 (front 21 n s)
-low-front n s = low-check (leb n (length s)) 21 (accepted (take n s)) tt fine
+-- ---- a value list
+front-21 : (n : ℕ) (s : List ℕ) → By21 (front 21 n s)
+front-21 n s = low-check (leb n (length s)) 21 (accepted (take n s)) tt fine
 
-low-eight : (n : ℕ) (c : List ℕ) (v : Value) → Below 22 (require (eqb (length c) n) 21 >> accepted v)
-low-eight n c v = low-check (eqb (length c) n) 21 (accepted v) tt fine
+length-21 : (n : ℕ) (c : List ℕ) (v : Value) → By21 (require (eqb (length c) n) 21 >> accepted v)
+length-21 n c v = low-check (eqb (length c) n) 21 (accepted v) tt fine
 
-low-value-of : (t : ℕ) (c : List ℕ) → Below 22 (valueOf t c)
-low-value-of t c =
-    low-cond (eqb t 0) _ _ (low-eight 0 c _)
-    (low-cond (eqb t 1) _ _ (low-eight 8 c _)
-    (low-cond (eqb t 2) _ _ (low-eight 8 c _) (low-cond (eqb t 3) (accepted (text c)) (refused 21) fine (low tt))))
+value-21 : (t : ℕ) (c : List ℕ) → By21 (valueOf t c)
+value-21 t c =
+    low-cond (eqb t 0) _ _ (length-21 0 c _)
+    (low-cond (eqb t 1) _ _ (length-21 8 c _)
+    (low-cond (eqb t 2) _ _ (length-21 8 c _) (low-cond (eqb t 3) (accepted (text c)) (refused 21) fine (low tt))))
 
-low-field : (t : ℕ) (s : List ℕ) → Below 22 (fieldOf t s)
+field-21 : (t : ℕ) (s : List ℕ) → By21 (fieldOf t s)
 unfolding fieldOf
-low-field t s =
-    low-bind (front 21 2 s) _ (low-front 2 s) (λ l.
-    low-bind (front 21 (bigTotal l) (drop 2 s)) _ (low-front (bigTotal l) (drop 2 s)) (λ c. low-bind (valueOf t c) _ (low-value-of t c) (λ v. fine)))
+field-21 t s =
+    low-bind (front 21 2 s) _ (front-21 2 s) (λ l.
+    low-bind (front 21 (bigTotal l) (drop 2 s)) _ (front-21 (bigTotal l) (drop 2 s)) (λ c. low-bind (valueOf t c) _ (value-21 t c) (λ v. fine)))
 
-low-values : (k : ℕ) (s : List ℕ) → Below 22 (valuesPast k s)
+past-21 : (k : ℕ) (s : List ℕ) → By21 (valuesPast k s)
 unfolding valuesPast
-low-values zero [] = fine
-low-values zero (t ∷ s) = low-bind (fieldOf t s) _ (low-field t s) (λ f. low-bind (valuesPast (f .1) s) _ (low-values (f .1) s) (λ vs. fine))
-low-values (suc k) [] = fine
-low-values (suc k) (b ∷ s) = low-values k s
+past-21 zero [] = fine
+past-21 zero (t ∷ s) = low-bind (fieldOf t s) _ (field-21 t s) (λ f. low-bind (valuesPast (f .1) s) _ (past-21 (f .1) s) (λ vs. fine))
+past-21 (suc k) [] = fine
+past-21 (suc k) (b ∷ s) = past-21 k s
 
+pub values-21 : (l : List ℕ) → By21 (values l)
+values-21 l = past-21 0 l
+
+-- ---- the calls
 pub low-pack : (s : State) (f l : List ℕ) → Below 22 (pack s f l)
 unfolding pack
-low-pack s f l = low-check (isPower (s .limit) && atMost63 (s .length)) 21 _ tt (low-bind (values l) _ (low-values 0 l) (λ vs. low-up (write s vs f) (low-writing _ (items f))))
+low-pack s f l = low-check (isPower (s .limit) && atMost63 (s .length)) 21 _ tt (low-bind (values l) _ (low-up (values l) below-22 (values-21 l)) (λ vs. low-up (write s vs f) up-22 (low-writing _ (items f))))
 
 low-offset : (p : ℤ) (len : ℕ) → Below 22 (offsetOf p len)
 low-offset (pos p) len = low-check (leb 1 p && leb p (len + 1)) 16 (accepted (offset (p - 1))) tt fine
@@ -295,7 +314,7 @@ low-offset (negsuc k) len = low-check (ltb k len) 16 (accepted (offset (len - su
 pub low-unpack : (f d : List ℕ) (p : ℤ) → Below 22 (unpack f d p)
 unfolding unpack read
 low-unpack f d p =
-    low-check (atMost63 (length d)) 21 _ tt (low-bind (offsetOf p (length d)) _ (low-offset p (length d)) (λ o. low-bind (readFrom f d o) _ (low-up (readFrom f d o) (low-reading _ (items f))) (λ r. fine)))
+    low-check (atMost63 (length d)) 21 _ tt (low-bind (offsetOf p (length d)) _ (low-offset p (length d)) (λ o. low-bind (readFrom f d o) _ (low-up (readFrom f d o) up-22 (low-reading _ (items f))) (λ r. fine)))
 
 -- an answer whose refusals are below n is not refused by n
 pub below-not : {A : Type 0} (n : ℕ) (c : Checked A) → Below n c → c ≡ refused n → ⊥

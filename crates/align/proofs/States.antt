@@ -1,0 +1,42 @@
+-- Alignment and length by their cases.
+use Prim.Native.Nat.{ℕ, _+_, _-_, _%_, _^_, _≤_, _<_, min}
+use native.Mathlib.Nat.{mod-one}
+use mathlib.Core.Path.{_≡_, refl, ap, _∙_}
+use mathlib.Core.Bool.{true, false}
+use borrow.Author.Tests.{le-leb, lt-leb, ne-eqb}
+use Rattle.definition.specs.Answers.{refused, accepted}
+use Rattle.definition.specs.Ops.{isPower}
+use Rattle.definition.specs.States.{further, longer, alignment, fill, padding}
+use Rattle.definition.specs.declared.State.{State}
+
+pub longer-fits : (s : State) (n : ℕ) → s .length + n ≤ 2 ^ 63 - 1 → longer s n ≡ accepted (further s n)
+unfolding longer
+longer-fits s n h = rw (le-leb (s .length + n) (2 ^ 63 - 1) h)
+
+pub longer-past : (s : State) (n : ℕ) → 2 ^ 63 - 1 < s .length + n → longer s n ≡ refused 9
+unfolding longer
+longer-past s n h = rw (lt-leb (s .length + n) (2 ^ 63 - 1) h)
+
+module _ (s : State) (n a : ℕ) (is : a ≡ min n (s .limit)) where
+  pub alignment-power : isPower a ≡ true → alignment s n ≡ accepted a
+  unfolding alignment
+  alignment-power h = rw (← is, h)
+
+  pub alignment-other : isPower a ≡ false → alignment s n ≡ refused 6
+  unfolding alignment
+  alignment-other h = rw (← is, h)
+
+  -- where the alignment is the literal b
+  pub padding-power : (b : ℕ) → a ≡ b → isPower b ≡ true → padding s n ≡ accepted (fill b (s .length))
+  unfolding padding
+  padding-power b e h = rw (alignment-power (ap isPower e ∙ h), e)
+
+  pub padding-one : a ≡ 1 → padding s n ≡ accepted 0
+  padding-one e = padding-power 1 e refl ∙ ap accepted (mod-one (1 - s .length % 1))
+
+  pub padding-other : isPower a ≡ false → padding s n ≡ refused 6
+  unfolding padding
+  padding-other h = rw (alignment-other h)
+
+pub power-none : (a : ℕ) → (a ≡ 1 → ⊥) → (a ≡ 2 → ⊥) → (a ≡ 4 → ⊥) → (a ≡ 8 → ⊥) → (a ≡ 16 → ⊥) → isPower a ≡ false
+power-none a h1 h2 h4 h8 h16 = rw (ne-eqb a 1 h1, ne-eqb a 2 h2, ne-eqb a 4 h4, ne-eqb a 8 h8, ne-eqb a 16 h16)

@@ -1,0 +1,17 @@
+-- The limit is tested first, then the length.
+use mathlib.Core.Path.{sym, _∙_}
+use borrow.Author.Needs.{needs}
+use Rattle.align.proofs.is_sound.Statement.{statement}
+use Rattle.align.proofs.is_sound.Tie as tie
+
+is-power-requires : tie.Need-is-power-requires
+is-power-requires c κs = search needs
+
+returns : tie.Need-returns
+returns c = rw (sym (c .before .before .is-power .ensures) ∙ c .before .if1 .taken)
+
+returns-2 : tie.Need-returns-2
+returns-2 c = rw (sym (c .before .is-power .ensures) ∙ c .if1 .left)
+
+pub is-sound-spec : {M : Type 1} → statement M
+is-sound-spec = tie.close (tie.spec is-power-requires returns returns-2)

@@ -1,0 +1,102 @@
+// Alignment and length: the zeros before an item, and the state after it.
+use definition::State;
+ghost use mathlib.Core.Path.{_≡_};
+ghost use Prim.Native.Nat.{_+_, min};
+ghost use mathlib.Core.Bool.{_&&_};
+ghost use Rattle.definition.specs.States as states;
+ghost use Rattle.definition.specs.Ops.{isPower};
+ghost use Rattle.definition.specs.Calls.{atMost63};
+ghost use Rattle.align.specs.Amounts.{amountOf, stateOf};
+
+// A number of bytes, or the number of a refusal.
+pub enum Amount {
+    Refused(u8),
+    Bytes(u64),
+}
+
+// The state after an item, or the number of a refusal.
+pub enum Next {
+    Refused(u8),
+    State(State),
+}
+
+// The greatest length.
+pub const MAX_LENGTH: u64 = 0x7fff_ffff_ffff_ffff;
+
+fn lesser(a: u64, b: u64) -> u64
+    ensures { λ r. ⌜ r ≡ min a b ⌝ }
+{
+    if a < b { a } else { b }
+}
+
+// Whether n is a power of two of 1 to 16.
+pub fn is_power(n: u64) -> bool
+    ensures { λ r. ⌜ r ≡ isPower n ⌝ }
+{
+    match n {
+        1 => true,
+        2 => true,
+        4 => true,
+        8 => true,
+        _ => n == 16,
+    }
+}
+
+// Whether a state can be continued from: its limit is a power of two of 1 to 16, and its length at most 2^63-1.
+pub fn is_sound(s: State) -> bool
+    ensures { λ r. ⌜ r ≡ isPower (s .limit) && atMost63 (s .length) ⌝ }
+{
+    if is_power(s.limit) {
+        s.length <= MAX_LENGTH
+    } else {
+        false
+    }
+}
+
+// The lesser of a natural alignment and the limit, or 6.
+pub fn alignment(s: State, natural: u64) -> Amount
+    ensures { λ r. ⌜ amountOf r ≡ states.alignment s natural ⌝ }
+{
+    let a = lesser(natural, s.limit);
+    if is_power(a) {
+        Amount::Bytes(a)
+    } else {
+        Amount::Refused(6)
+    }
+}
+
+// The zeros that bring the state to a natural alignment, or 6.
+pub fn padding(s: State, natural: u64) -> Amount
+    ensures { λ r. ⌜ amountOf r ≡ states.padding s natural ⌝ }
+{
+    let a = lesser(natural, s.limit);
+    if a == 1 {
+        return Amount::Bytes(0);
+    }
+    let n = s.length;
+    match a {
+        2 => Amount::Bytes((2 - n % 2) % 2),
+        4 => Amount::Bytes((4 - n % 4) % 4),
+        8 => Amount::Bytes((8 - n % 8) % 8),
+        16 => Amount::Bytes((16 - n % 16) % 16),
+        _ => Amount::Refused(6),
+    }
+}
+
+// The state n bytes on, or 9.
+pub fn longer(s: State, n: u64) -> Next
+    ensures { λ r. ⌜ stateOf r ≡ states.longer s n ⌝ }
+{
+    let length = s.length;
+    if MAX_LENGTH < n {
+        return Next::Refused(9);
+    }
+    if MAX_LENGTH - n < length {
+        return Next::Refused(9);
+    }
+    Next::State(State {
+        big: s.big,
+        limit: s.limit,
+        length: length + n,
+    })
+}

@@ -1,0 +1,121 @@
+-- Laws of reading: the loop that gathers the low bytes, the loop that passes the bytes above eight, and the answers.
+use Prim.Native.Nat.{ℕ, _+_, _*_, _%_, _^_, _≤_, _<_}
+use mathlib.Core.Path.{_≡_, refl, sym, ap, _∙_}
+use mathlib.Core.Bool.{Bool, true, false, _&&_}
+use mathlib.Core.List.{List}
+use native.Mathlib.Nat.{pow-le-pow-right, lt-of-lt-of-le}
+use native.Mathlib.Numerals.{add-one}
+use native.Mathlib.Omega.{arith}
+use native.Mathlib.Decide.{decLt}
+use lib.Dec.{eqb, lit<}
+use lib.IntN.{ℤ}
+use lib.ListN.{length, getD, take, drop, drop-of-length-le}
+use lib.Seq.{drop-cons}
+use borrow.Author.Tests.{eq-eqb, ne-eqb}
+use Rattle.definition.specs.Answers.{refused, accepted, require, _>>_}
+use Rattle.definition.specs.Bytes.{total, sign, signed, low}
+use Rattle.definition.specs.Values.{integer}
+use Rattle.definition.specs.Fields.{all}
+use Rattle.definition.proofs.Bytes.{total-more, length-ordered, length-part, part-at, number-is}
+use Rattle.coder.specs.Digits.{placeOf, lowestFirst, lowBytes, highBytes}
+use Rattle.coder.specs.Numbers.{unsignedAt, signedAt}
+use Rattle.coder.proofs.Placing.{ordered-at, place-lt, shifted, above-lt}
+
+-- v is the number of the k lowest of the first n bytes of s
+pub record Gathered (o : Bool) (n : ℕ) (s : List ℕ) (v k : ℕ) : Type 0 where
+  pub sum : v ≡ total (take k (lowestFirst o n s))
+  pub below : v < 256 ^ k
+  pub within : k ≤ low n
+
+-- the bytes above eight and below k are all f, so those from k on decide
+pub record Passed (o : Bool) (n : ℕ) (s : List ℕ) (f k : ℕ) : Type 0 where
+  pub same : all f (highBytes o n s) ≡ all f (drop k (lowestFirst o n s))
+  pub above : 8 ≤ k
+
+pub gathered-none : (o : Bool) (n : ℕ) (s : List ℕ) → Gathered o n s 0 0
+unfolding total
+gathered-none o n s = record { sum = refl; below = lit< tt; within = omega arith }
+
+pub gathered-all : {o : Bool} {n : ℕ} {s : List ℕ} {v k : ℕ} → Gathered o n s v k → low n ≤ k → (v ≡ total (lowBytes o n s)) × (v < 256 ^ low n)
+gathered-all {o} {n} {s} {v} {k} g h =
+    let e : k ≡ low n = omega arith in
+    (g .sum ∙ ap (λ (i : ℕ). total (take i (lowestFirst o n s))) e, rw e at (g .below))
+
+-- at most eight bytes fit 64 bits
+pub gathered-fits : {o : Bool} {n : ℕ} {s : List ℕ} {v k : ℕ} → Gathered o n s v k → v < 2 ^ 64
+gathered-fits {k = k} g = lt-of-lt-of-le (g .below) (pow-le-pow-right (lit< tt) {i = k} {j = 8} (omega arith))
+
+-- an integer of n bytes, in the order o, stands at `at` in d
+pub record Inside (o : Bool) (n at : ℕ) (d : List ℕ) : Type 0 where
+  pub ends : at + n ≤ length d
+
+module _ {o : Bool} {n at : ℕ} {d : List ℕ} (i : Inside o n at d) where
+  length-all : length (lowestFirst o n (drop at d)) ≡ n
+  length-all = length-ordered o (take n (drop at d)) ∙ length-part n at d (i .ends)
+
+  byte-at : (k p : ℕ) → k < n → p ≡ placeOf o n k → getD (lowestFirst o n (drop at d)) k 0 ≡ getD d (at + p) 0
+  byte-at k p l e =
+      ordered-at o (take n (drop at d)) n k (length-part n at d (i .ends)) l
+      ∙ part-at n at (placeOf o n k) d (place-lt o n k l)
+      ∙ ap (λ (j : ℕ). getD d (at + j) 0) (sym e)
+
+  -- the byte k, which stands at p, is added
+  pub gathered-more : {v k p b : ℕ} → Gathered o n (drop at d) v k → k < low n → p ≡ placeOf o n k → b ≡ getD d (at + p) 0 → b < 256 → Gathered o n (drop at d) (v + (b * 2 ^ (8 * k)) % 2 ^ 64) (k + 1)
+  gathered-more {v} {k} {p} {b} g l e f u =
+      let s : List ℕ = lowestFirst o n (drop at d) in
+      let x : getD s k 0 ≡ b = byte-at k p (omega arith) e ∙ sym f in
+      rw (shifted b k u (omega arith))
+      (record {
+        sum =
+            ap (λ (j : ℕ). j + b * 256 ^ k) (g .sum)
+            ∙ ap (λ (j : ℕ). total (take k s) + j * 256 ^ k) (sym x)
+            ∙ sym (total-more s k (omega (arith, length-all)))
+            ∙ ap (λ (j : ℕ). total (take j s)) (sym (add-one k));
+        below = above-lt v b k (g .below) u;
+        within = omega arith;
+      })
+
+  past : (f k : ℕ) → n ≤ k → all f (drop k (lowestFirst o n (drop at d))) ≡ true
+  past f k l = ap (all f) (drop-of-length-le (lowestFirst o n (drop at d)) {i = k} (omega (arith, length-all)))
+
+  -- below eight bytes there are none above
+  pub passed-none : (f : ℕ) → Passed o n (drop at d) f 8
+  passed-none f = record { same = go (decLt n 8); above = omega arith }
+    where
+      go : Dec (n < 8) → all f (highBytes o n (drop at d)) ≡ all f (drop 8 (lowestFirst o n (drop at d)))
+      go (yes l) =
+          let e : low n ≡ n = omega arith in
+          rw e (past f n (omega arith) ∙ sym (past f 8 (omega arith)))
+      go (no l) = let e : low n ≡ 8 = omega arith in rw e
+
+  next : (f k p : ℕ) → k < n → p ≡ placeOf o n k → all f (drop k (lowestFirst o n (drop at d))) ≡ (eqb (getD d (at + p) 0) f && all f (drop (k + 1) (lowestFirst o n (drop at d))))
+  next f k p l e = rw (drop-cons (lowestFirst o n (drop at d)) k 0 (omega (arith, length-all)), byte-at k p l e, add-one k)
+
+  -- the byte k, which stands at p, is f or not
+  pub passed-more : {f k p : ℕ} → Passed o n (drop at d) f k → k < n → p ≡ placeOf o n k → getD d (at + p) 0 ≡ f → Passed o n (drop at d) f (k + 1)
+  passed-more {f} {k} {p} g l e u = record { same = g .same ∙ next f k p l e ∙ rw (eq-eqb _ f u); above = omega arith }
+
+  pub passed-other : {f k p : ℕ} → Passed o n (drop at d) f k → k < n → p ≡ placeOf o n k → (getD d (at + p) 0 ≡ f → ⊥) → false ≡ all f (highBytes o n (drop at d))
+  passed-other {f} {k} {p} g l e u = sym (g .same ∙ next f k p l e ∙ rw (ne-eqb _ f u))
+
+  pub passed-all : {f k : ℕ} → Passed o n (drop at d) f k → n ≤ k → true ≡ all f (highBytes o n (drop at d))
+  passed-all {f} {k} g l = sym (g .same ∙ past f k l)
+
+  -- ---- the answers: v is the number of the low bytes, and t says whether those above are the fill
+
+  pub unsigned-fits : {v : ℕ} {t : Bool} → v ≡ total (lowBytes o n (drop at d)) → t ≡ all 0 (highBytes o n (drop at d)) → t ≡ true → accepted v ≡ unsignedAt o n (drop at d)
+  unsigned-fits e f y = rw (number-is o n at d (i .ends), ← f, y, e)
+
+  pub unsigned-too-wide : {t : Bool} → t ≡ all 0 (highBytes o n (drop at d)) → t ≡ false → refused 18 ≡ unsignedAt o n (drop at d)
+  unsigned-too-wide f y = rw (number-is o n at d (i .ends), ← f, y)
+
+  -- z is the integer of v, and b its fill
+  module _ {v b : ℕ} {z : ℤ} {t : Bool} (e : v ≡ total (lowBytes o n (drop at d))) (r : z ≡ signed (low n) v) (g : b ≡ sign z) (f : t ≡ all b (highBytes o n (drop at d))) where
+    answer : signedAt o n (drop at d) ≡ (require t 18 >> accepted (integer z))
+    answer = rw (number-is o n at d (i .ends), ← e, ← r, ← g, ← f)
+
+    pub signed-fits : t ≡ true → accepted (integer z) ≡ signedAt o n (drop at d)
+    signed-fits y = sym (answer ∙ rw y)
+
+    pub signed-too-wide : t ≡ false → refused 18 ≡ signedAt o n (drop at d)
+    signed-too-wide y = sym (answer ∙ rw y)

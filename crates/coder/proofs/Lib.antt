@@ -1,0 +1,4 @@
+pub mod Placing
+pub mod Pasting
+pub mod Gathering
+pub mod Twos

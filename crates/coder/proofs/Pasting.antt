@@ -1,0 +1,60 @@
+-- Laws of stores into a list: stores side by side are one, and a loop that writes one element a turn.
+use Prim.Native.Nat.{ℕ, suc, _+_, _≤_, _<_}
+use mathlib.Core.Path.{_≡_, sym, ap, _∙_}
+use mathlib.Core.List.{List, [], _∷_, _++_, append-assoc}
+use native.Mathlib.Nat.{add-assoc}
+use native.Mathlib.Numerals.{add-one}
+use native.Mathlib.Omega.{arith}
+use lib.ListN.{length, take, drop, getD, set, length-append}
+use lib.Seq.{paste, paste-zero, paste-suc, length-paste, take-paste, drop-paste, drop-at, drop-drop, take-all, take-append-le, take-take, length-take-le, set-split, append-snoc}
+
+-- one element
+pub set-paste : (d : List ℕ) (at x : ℕ) → at < length d → set d at x ≡ paste d at (x ∷ []) 1
+set-paste d at x h = set-split d at x h ∙ rw (add-one at) (sym (append-snoc (take at d) x (drop (suc at) d)))
+
+-- the m elements of x, and the n elements of y after them
+module _ (d x y : List ℕ) (at m n : ℕ) (e : length x ≡ m) (f : length y ≡ n) (h : at + (m + n) ≤ length d) where
+  both : take (m + n) (x ++ y) ≡ x ++ y
+  both = take-all (m + n) (x ++ y) (omega (arith, length-append x y))
+
+  rest : drop (at + m + n) d ≡ drop (at + (m + n)) d
+  rest = ap (λ (k : ℕ). drop k d) (add-assoc at m n)
+
+  pub paste-on : paste (paste d at x m) (at + m) y n ≡ paste d at (x ++ y) (m + n)
+  paste-on =
+      let first = take-paste d at x m (omega arith) (omega arith) in
+      let last : drop (at + m + n) (paste d at x m) ≡ drop (at + m + n) d =
+      sym (drop-drop n (at + m) (paste d at x m)) ∙ ap (drop n) (drop-paste d at x m (omega arith) (omega arith)) ∙ drop-drop n (at + m) d in
+      rw (first, last, both, rest, take-all m x (omega arith), take-all n y (omega arith), append-assoc (take at d) x y)
+
+  pub paste-before : paste (paste d (at + m) y n) at x m ≡ paste d at (x ++ y) (m + n)
+  paste-before =
+      let back : List ℕ = take n y ++ drop (at + m + n) d in
+      let split : paste d (at + m) y n ≡ take (at + m) d ++ back = append-assoc (take (at + m) d) (take n y) (drop (at + m + n) d) in
+      let long = length-take-le (at + m) d (omega arith) in
+      let first : take at (take (at + m) d ++ back) ≡ take at d = take-append-le at (take (at + m) d) back (omega arith) ∙ take-take at (at + m) d (omega arith) in
+      rw (split, first, drop-at (take (at + m) d) back (at + m) long, both, rest, take-all m x (omega arith), take-all n y (omega arith)) (simp append-assoc)
+
+-- ---- a loop that writes the n elements of s into d from index `at` on, one a turn
+
+-- d has room for the elements
+pub record Room (d s : List ℕ) (at n : ℕ) : Type 0 where
+  pub fits : at + n ≤ length d
+  pub whole : length s ≡ n
+
+-- the loop's invariant: j of the elements are written
+abbrev pub Pasted : List ℕ → List ℕ → ℕ → ℕ → List ℕ → ℕ → Type 0
+Pasted d s at n out j = (out ≡ paste d at s j) × (j ≤ n)
+
+module _ {d s : List ℕ} {at n : ℕ} (r : Room d s at n) where
+  pub pasted-none : Pasted d s at n d 0
+  pasted-none = (paste-zero d at s, omega arith)
+
+  pub pasted-more : {out : List ℕ} {j b : ℕ} → Pasted d s at n out j → j < n → b ≡ getD s j 0 → Pasted d s at n (set out (at + j) b) (j + 1)
+  pasted-more {j = j} p k e = (rw (p .0, e, add-one j) (paste-suc d at s j 0 (omega arith) (omega arith)), omega arith)
+
+  pub pasted-length : {out : List ℕ} {j : ℕ} → Pasted d s at n out j → length out ≡ length d
+  pasted-length {j = j} p = ap length (p .0) ∙ length-paste d at s j (omega arith) (omega arith)
+
+  pub pasted-all : {out : List ℕ} {j : ℕ} → Pasted d s at n out j → n ≤ j → out ≡ paste d at s n
+  pasted-all {j = j} p k = let e : j ≡ n = omega arith in p .0 ∙ ap (paste d at s) e

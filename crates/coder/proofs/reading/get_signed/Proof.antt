@@ -1,0 +1,44 @@
+-- `get_signed` meets its contract: the integer of the low bytes, where those above are filled with its sign.
+use mathlib.Core.Path.{_∙_}
+use mir.Facts.{toZ-ofZ}
+use mir.Syntax.{w64}
+use Rattle.coder.proofs.Gathering.{Inside, signed-fits, signed-too-wide}
+use borrow.Author.Needs.{needs, sfits-of}
+use Rattle.coder.proofs.reading.get_signed.Statement.{statement}
+use Rattle.coder.proofs.reading.get_signed.Tie as tie
+
+here : (c : tie.Start) → Inside (c .args .big) (c .args .size) (c .args .at) (c .args .«data» .now)
+here c = record { ends = c .pre }
+
+get-word-requires : tie.Need-get-word-requires
+get-word-requires c κs = search needs
+
+restored-requires : tie.Need-restored-requires
+restored-requires c κs = search needs
+
+sign-byte-requires : tie.Need-sign-byte-requires
+sign-byte-requires c κs = search needs
+
+is-filled-requires : tie.Need-is-filled-requires
+is-filled-requires c κs = search needs
+
+returns : tie.Need-returns
+returns c =
+    let r = c .before .before .before .restored in
+    signed-fits (here (c .before .before .before .before .before .before)) (c .before .before .before .before .get-word .ensures .0) (toZ-ofZ (sfits-of {w = w64} (r .ok)) ∙ r .ensures) (c .before .before .sign-byte .ensures) (c .before .is-filled .ensures) (c .if1 .taken)
+
+returns-2 : tie.Need-returns-2
+returns-2 c =
+    let r = c .before .before .before .restored in
+    signed-too-wide (here (c .before .before .before .before .before .before)) (c .before .before .before .before .get-word .ensures .0) (toZ-ofZ (sfits-of {w = w64} (r .ok)) ∙ r .ensures) (c .before .before .sign-byte .ensures) (c .before .is-filled .ensures) (c .if1 .left)
+
+pub get-signed-spec : {M : Type 1} → statement M
+get-signed-spec =
+    tie.close
+    (tie.spec
+    get-word-requires
+    restored-requires
+    sign-byte-requires
+    is-filled-requires
+    returns
+    returns-2)

@@ -1,0 +1,23 @@
+-- `get_unsigned` meets its contract: the number of the low bytes, where those above are zeros.
+use Rattle.coder.proofs.Gathering.{Inside, unsigned-fits, unsigned-too-wide}
+use borrow.Author.Needs.{needs}
+use Rattle.coder.proofs.reading.get_unsigned.Statement.{statement}
+use Rattle.coder.proofs.reading.get_unsigned.Tie as tie
+
+here : (c : tie.Start) → Inside (c .args .big) (c .args .size) (c .args .at) (c .args .«data» .now)
+here c = record { ends = c .pre }
+
+is-filled-requires : tie.Need-is-filled-requires
+is-filled-requires c κs = search needs
+
+get-word-requires : tie.Need-get-word-requires
+get-word-requires c κs = search needs
+
+returns : tie.Need-returns
+returns c = unsigned-fits (here (c .before .before .before .before)) (c .get-word .ensures .0) (c .before .before .is-filled .ensures) (c .before .if1 .taken)
+
+returns-2 : tie.Need-returns-2
+returns-2 c = unsigned-too-wide (here (c .before .before .before)) (c .before .is-filled .ensures) (c .if1 .left)
+
+pub get-unsigned-spec : {M : Type 1} → statement M
+get-unsigned-spec = tie.close (tie.spec is-filled-requires get-word-requires returns returns-2)

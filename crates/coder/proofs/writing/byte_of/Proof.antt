@@ -1,0 +1,24 @@
+-- `byte_of` meets its contract: a shift by 8 k bits divides by 256 ^ k.
+use borrow.Author.Needs.{needs}
+use borrow.Author.Tests.{lt-ltb, le-ltb}
+use Rattle.coder.proofs.Placing.{bits-of-bytes}
+use Rattle.coder.proofs.writing.byte_of.Statement.{statement}
+use Rattle.coder.proofs.writing.byte_of.Tie as tie
+
+mul-result : tie.Need-mul-result
+mul-result c = search needs
+
+shr-result : tie.Need-shr-result
+shr-result c = search needs
+
+cast-result : tie.Need-cast-result
+cast-result c = search needs
+
+returns : tie.Need-returns
+returns c = rw (lt-ltb _ 8 (c .if1 .taken), bits-of-bytes (c .before .args .k))
+
+returns-2 : tie.Need-returns-2
+returns-2 c = rw (le-ltb _ 8 (c .if1 .left))
+
+pub byte-of-spec : {M : Type 1} → statement M
+byte-of-spec = tie.close (tie.spec mul-result shr-result cast-result returns returns-2)

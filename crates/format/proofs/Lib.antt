@@ -1,0 +1,9 @@
+pub mod Tabulate
+pub mod Table
+pub mod Entries
+pub mod Numerals
+pub mod Alignments
+pub mod Taken
+pub mod Operands
+pub mod Cursors
+pub mod Walking

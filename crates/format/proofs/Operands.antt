@@ -1,0 +1,61 @@
+-- The operand of X and of a byte that is no option, and how many bytes an option takes.
+use Prim.Native.Nat.{ℕ, _-_, _^_, _≤_, _<_}
+use mathlib.Core.Path.{_≡_, refl, sym, ap}
+use mathlib.Core.Bool.{Bool, true, false, cond}
+use mathlib.Core.List.{List}
+use native.Mathlib.Nat.{le-refl}
+use native.Mathlib.Omega.{arith}
+use lib.Dec.{eqb}
+use lib.ListN.{length, take, drop, length-drop}
+use lib.Seq.{take-all}
+use Rattle.definition.specs.Answers.{Checked, refused, accepted}
+use Rattle.definition.specs.Options.{entry}
+use Rattle.definition.specs.Items.{takenBy}
+use Rattle.definition.specs.declared.NumeralRule.the-variants.{Nothing, DigitsBehindX}
+use Rattle.definition.specs.declared.Class.the-variants.{Number}
+use Rattle.definition.specs.declared.Entry.{Entry}
+use Rattle.definition.specs.declared.Numeral.the-variants as Numeral
+use Rattle.format.specs.Packed.{kindAt, sizeAt, plainAt, entryAt}
+use Rattle.format.specs.Operands.{operandBy, operandWith, taking, operandAt, naturalAt, operandOf, roomFor1}
+use Rattle.format.specs.declared.operand.Operand.{Operand}
+use Rattle.format.specs.declared.operand.Operand.the-variants as Operand
+use Rattle.format.proofs.Taken.{taken-length}
+use Rattle.format.proofs.Entries.{at-fixed, at-plain, at-align, at-none, plain-by, size-missing}
+
+-- ---- how many bytes are taken
+taking-count : (c : Checked ℕ) (i n j : ℕ) → taking i c ≡ accepted (n, j) → j ≡ i
+taking-count (refused k) i n j q = let z : _≡_ {A = ℕ} 0 1 = cc in absurd (omega arith)
+taking-count (accepted m) i n j q = let p : _≡_ {A = ℕ × ℕ} (m, i) (n, j) = cc in ap (λ (x : ℕ × ℕ). x .1) (sym p)
+
+pub operand-count : (e : Entry) (s : List ℕ) (n i : ℕ) → operandAt e s ≡ accepted (n, i) → i ≤ length s
+unfolding operandAt
+operand-count e s n i q = rw (taking-count (operandWith (e .rule) e (takenBy (e .rule) s)) (length (takenBy (e .rule) s)) n i q) (taken-length (e .rule) s)
+
+pub room : (x : Operand) (e : Entry) (s : List ℕ) → operandOf x ≡ operandAt e s → length s < 2 ^ 63 → roomFor1 x
+room (Operand.Refused k) e s q h = tt
+room (Operand.Of n i) e s q h = omega (arith, operand-count e s n i (sym q))
+
+-- ---- X, and a byte that is no option
+pub operand-x : (e : ℕ) → 208 ≤ e → e < 224 → (s : List ℕ) → naturalAt s ≡ operandAt (entryAt e) s
+unfolding operandAt naturalAt
+operand-x e l h s = rw (at-align e l h)
+
+pub operand-none : (e : ℕ) → 224 ≤ e → (s : List ℕ) → refused 1 ≡ operandAt (entryAt e) s
+unfolding operandAt
+operand-none e l s = rw (at-none e l)
+
+-- ---- options that take nothing
+fixed-with : (e : Entry) (s : List ℕ) (t : Bool) → operandBy (e .class) (e .size) Numeral.Missing ≡ accepted (e .size) → e .rule ≡ cond t DigitsBehindX Nothing → accepted (e .size, 0) ≡ operandAt e s
+unfolding operandAt
+fixed-with e s true q r = rw (r, q)
+fixed-with e s false q r = rw (r, q)
+
+pub operand-fixed : (e : ℕ) → e < 112 → (s : List ℕ) → accepted (sizeAt e, 0) ≡ operandAt (entryAt e) s
+operand-fixed e h s = rw (at-fixed e h) (fixed-with (entry (Number (kindAt e)) (sizeAt e) (cond (eqb e 83) DigitsBehindX Nothing)) s (eqb e 83) (size-missing e) refl)
+
+pub operand-plain : (e : ℕ) → 112 ≤ e → e < 128 → (s : List ℕ) → accepted (0, 0) ≡ operandAt (entryAt e) s
+operand-plain e l h s = rw (at-plain e l h) (fixed-with (entry (plainAt e) 0 Nothing) s false (plain-by e 0) refl)
+
+-- ---- the part of s from a place to its end
+pub part-rest : (a : ℕ) (s : List ℕ) → take (length s - a) (drop a s) ≡ drop a s
+part-rest a s = take-all (length s - a) (drop a s) (rw length-drop (le-refl (length s - a)))

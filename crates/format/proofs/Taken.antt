@@ -1,0 +1,34 @@
+-- What an option takes is at most what follows it: a law of the definition.
+use Prim.Native.Nat.{ℕ, suc, _≤_}
+use mathlib.Core.Bool.{Bool, true, false, _&&_, cond}
+use mathlib.Core.List.{List, [], _∷_}
+use native.Mathlib.Omega.{arith}
+use lib.ListN.{length}
+use Rattle.definition.specs.Options.{entryOf}
+use Rattle.definition.specs.Items.{isDigit, digits, isNumber, behindX, nextByte, takenBy}
+use Rattle.definition.specs.declared.NumeralRule.{NumeralRule}
+use Rattle.definition.specs.declared.NumeralRule.the-variants.{Nothing, Digits, DigitsBehindX, NextByte}
+
+digits-length : (s : List ℕ) → length (digits s) ≤ length s
+unfolding digits
+digits-length [] = omega arith
+digits-length (b ∷ s) = go (isDigit b) (digits-length s)
+  where
+    go : (t : Bool) → length (digits s) ≤ length s → length (cond t (b ∷ digits s) []) ≤ suc (length s)
+    go true h = omega arith
+    go false h = omega arith
+
+next-length : (s : List ℕ) → length (nextByte s) ≤ length s
+unfolding nextByte
+next-length [] = omega arith
+next-length (b ∷ s) = go (isNumber (entryOf b .class) && behindX (entryOf b .rule))
+  where
+    go : (t : Bool) → suc (length (cond t (digits s) [])) ≤ suc (length s)
+    go true = omega (arith, digits-length s)
+    go false = omega arith
+
+pub taken-length : (r : NumeralRule) (s : List ℕ) → length (takenBy r s) ≤ length s
+taken-length Nothing s = omega arith
+taken-length Digits s = digits-length s
+taken-length DigitsBehindX s = omega arith
+taken-length NextByte s = next-length s

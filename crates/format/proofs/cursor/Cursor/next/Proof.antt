@@ -1,0 +1,65 @@
+-- The byte has its entry, and what follows it its operand.
+use Prim.Native.Nat.{_+_}
+use mathlib.Core.Path.{sym, ap, _∙_}
+use native.Mathlib.Omega.{arith}
+use borrow.Author.Needs.{needs}
+use denote.Ref.{now}
+use lib.ListN.{drop, length-drop}
+use Rattle.definition.specs.Answers.{refused, accepted}
+use Rattle.format.specs.Operands.{operandOf}
+use Rattle.format.specs.Packed.{entryAt}
+use Rattle.format.proofs.Cursors.{next-end, next-step}
+use Rattle.format.proofs.Operands.{operand-count}
+use Rattle.format.proofs.cursor.Cursor.next.Statement.{statement}
+use Rattle.format.proofs.cursor.Cursor.next.Tie as tie
+
+returns : tie.Need-returns
+returns c = next-end (now (c .before .before .args .format)) (c .before .before .args .self .at) (c .if1 .taken)
+
+shared-slice-read-entry : tie.Need-shared-slice-read-entry
+shared-slice-read-entry c = search needs
+
+entry-requires : tie.Need-entry-requires
+entry-requires c κs = search needs
+
+add-i : tie.Need-add-i
+add-i c = search needs
+
+operand-at-requires : tie.Need-operand-at-requires
+operand-at-requires c κs = search needs
+
+enum-known-k : tie.Need-enum-known-k
+enum-known-k c = search needs
+
+enum-known-n : tie.Need-enum-known-n
+enum-known-n c = search needs
+
+add-t17 : tie.Need-add-t17
+add-t17 c =
+    let s = now (c .before .before .before .before .before .before .before .before .args .format) in
+    omega (arith, operand-count (entryAt (c .before .before .before .before .entry .result)) (drop (c .before .before .before .before .before .before .before .before .args .self .at + 1) s) _ _ (sym (c .before .before .before .operand-at .ensures) ∙ ap operandOf (c .before .n .given .1)), length-drop (c .before .before .before .before .before .before .before .before .args .self .at + 1) s)
+
+returns-2 : tie.Need-returns-2
+returns-2 c =
+    let x = c .before .k .given in
+    next-step (now (c .before .before .before .before .before .before .before .before .args .format)) (c .before .before .before .before .before .before .before .before .args .self .at) (c .before .before .before .before .before .before .if1 .left) (c .before .before .before .before .entry .result) (c .before .before .before .before .entry .ensures) (refused (x .0 .0)) (sym (ap operandOf (x .1)) ∙ c .before .before .before .operand-at .ensures)
+
+returns-3 : tie.Need-returns-3
+returns-3 c =
+    let x = c .before .n .given in
+    next-step (now (c .before .before .before .before .before .before .before .before .args .format)) (c .before .before .before .before .before .before .before .before .args .self .at) (c .before .before .before .before .before .before .if1 .left) (c .before .before .before .before .entry .result) (c .before .before .before .before .entry .ensures) (accepted (x .0 .0, x .0 .1 .0)) (sym (ap operandOf (x .1)) ∙ c .before .before .before .operand-at .ensures)
+
+pub next-spec : {M : Type 1} → statement M
+next-spec =
+    tie.close
+    (tie.spec
+    returns
+    shared-slice-read-entry
+    entry-requires
+    add-i
+    operand-at-requires
+    enum-known-k
+    enum-known-n
+    add-t17
+    returns-2
+    returns-3)

@@ -1,0 +1,108 @@
+-- Behind X an option with a numeral is asked for its own operand, with one byte less to look at.
+use Prim.Native.Nat.{ℕ, _<_}
+use mathlib.Core.Path.{sym, ap, _∙_}
+use native.Mathlib.Nat.{le-refl}
+use native.Mathlib.Omega.{arith}
+use borrow.Fn.Kinds.{In}
+use borrow.Fn.PlainCycle.{Measures, is, falls, and}
+use lib.ListN.{length, drop, length-drop}
+use Rattle.format.specs.Operands.{operandAt, oneMore, behindOf}
+use Rattle.format.specs.Packed.{entryAt}
+use Rattle.format.specs.declared.operand.Behind.{Behind}
+use Rattle.format.proofs.Operands.{operand-none, operand-x, room, part-rest}
+use Rattle.format.proofs.operand.operand_of.Reads as operand-of
+use Rattle.format.proofs.operand.operand_of.Kinds as operand-of-kinds
+use Rattle.format.proofs.operand.+operand_of.Lts-operand_of as operand-of-lts
+use Rattle.format.proofs.operand.behind_x.Reads as behind-x-reads
+use Rattle.format.proofs.operand.by_numeral.Reads as by-numeral-reads
+use Rattle.format.proofs.operand.one_more.Reads as one-more-reads
+use Rattle.format.proofs.operand.+operand_of.{statement}
+use Rattle.format.proofs.operand.+operand_of.Tie.{close}
+
+abbrev μ-operand-of : Measures 2 operand-of-kinds.ps ℕ
+μ-operand-of κs a = length (a .1 .0 .now)
+
+abbrev operand-of-at : ℕ → In 2 operand-of-kinds.ps
+operand-of-at t =
+    and 2 operand-of-kinds.ps (is 2 operand-of-kinds.ps μ-operand-of t) operand-of.Pre
+
+abbrev operand-of-below : ℕ → In 2 operand-of-kinds.ps
+operand-of-below t =
+    and 2 operand-of-kinds.ps (falls 2 operand-of-kinds.ps _<_ μ-operand-of t) operand-of.Pre
+
+abbrev claims : ℕ → operand-of-lts.Claims
+claims t = (by-numeral-reads.Asked, by-numeral-reads.Learnt, behind-x-reads.Asked, behind-x-reads.Learnt, operand-of-below t, operand-of.Post, one-more-reads.Asked, one-more-reads.Learnt)
+
+operand-of-by-numeral-requires : (t : ℕ) → operand-of-lts.Need-by-numeral-requires (claims t) (operand-of-at t) operand-of.Post
+operand-of-by-numeral-requires t c κs = (c .before .before .pre .1 .1, c .if1 .taken)
+
+operand-of-returns : (t : ℕ) → operand-of-lts.Need-returns (claims t) (operand-of-at t) operand-of.Post
+operand-of-returns t c = c .by-numeral .ensures
+
+operand-of-returns-2 : (t : ℕ) → operand-of-lts.Need-returns-2 (claims t) (operand-of-at t) operand-of.Post
+operand-of-returns-2 t c = operand-none (c .before .before .before .args .e) (c .if2 .taken) (c .before .before .before .args .rest .now)
+
+operand-of-behind-x-requires : (t : ℕ) → operand-of-lts.Need-behind-x-requires (claims t) (operand-of-at t) operand-of.Post
+operand-of-behind-x-requires t c κs = c .before .before .before .pre .1 .0
+
+operand-of-enum-known-k : (t : ℕ) → operand-of-lts.Need-enum-known-k (claims t) (operand-of-at t) operand-of.Post
+operand-of-enum-known-k t c = c .match .keys1
+
+operand-of-enum-known-n : (t : ℕ) → operand-of-lts.Need-enum-known-n (claims t) (operand-of-at t) operand-of.Post
+operand-of-enum-known-n t c = c .match .keys2
+
+operand-of-enum-known-f : (t : ℕ) → operand-of-lts.Need-enum-known-f (claims t) (operand-of-at t) operand-of.Post
+operand-of-enum-known-f t c = c .match .keys3
+
+operand-of-sub-operand-of : (t : ℕ) → operand-of-lts.Need-sub-operand-of (claims t) (operand-of-at t) operand-of.Post
+operand-of-sub-operand-of t c = (rw (c .before .f .given .1) at (c .before .before .before .behind-x .ensures .1)) .1
+
+operand-of-part-operand-of-start : (t : ℕ) → operand-of-lts.Need-part-operand-of-start (claims t) (operand-of-at t) operand-of.Post
+operand-of-part-operand-of-start t c = (rw (c .before .f .given .1) at (c .before .before .before .behind-x .ensures .1)) .1
+
+operand-of-part-operand-of-end : (t : ℕ) → operand-of-lts.Need-part-operand-of-end (claims t) (operand-of-at t) operand-of.Post
+operand-of-part-operand-of-end t c = le-refl _
+
+operand-of-operand-of-requires : (t : ℕ) → operand-of-lts.Need-operand-of-requires (claims t) (operand-of-at t) operand-of.Post
+operand-of-operand-of-requires t c κs =
+    let s = c .before .before .before .before .before .before .before .before .args .rest .now in
+    let h = (rw (c .before .before .f .given .1) at (c .before .before .before .before .behind-x .ensures .1)) in
+    (rw (part-rest 1 s, length-drop) (omega arith), (c .before .before .before .before .before .before .before .before .pre .1 .0, h .0))
+
+operand-of-one-more-requires : (t : ℕ) → operand-of-lts.Need-one-more-requires (claims t) (operand-of-at t) operand-of.Post
+operand-of-one-more-requires t c κs =
+    let s = c .before .before .before .before .before .before .before .before .before .args .rest .now in
+    room (c .operand-of .result) (entryAt (c .before .before .before .f .given .0 .0)) (drop 1 s) (c .operand-of .ensures ∙ ap (operandAt (entryAt (c .before .before .before .f .given .0 .0))) (part-rest 1 s)) (rw length-drop (omega arith))
+
+operand-of-returns-3 : (t : ℕ) → operand-of-lts.Need-returns-3 (claims t) (operand-of-at t) operand-of.Post
+operand-of-returns-3 t c = sym (ap (λ (x : Behind). behindOf x (c .before .before .before .before .before .before .before .args .rest .now)) (c .before .k .given .1)) ∙ c .before .before .before .behind-x .ensures .0 ∙ operand-x (c .before .before .before .before .before .before .before .args .e) (c .before .before .before .before .before .if1 .left) (c .before .before .before .before .if2 .left) (c .before .before .before .before .before .before .before .args .rest .now)
+
+operand-of-returns-4 : (t : ℕ) → operand-of-lts.Need-returns-4 (claims t) (operand-of-at t) operand-of.Post
+operand-of-returns-4 t c = sym (ap (λ (x : Behind). behindOf x (c .before .before .before .before .before .before .before .args .rest .now)) (c .before .n .given .1)) ∙ c .before .before .before .behind-x .ensures .0 ∙ operand-x (c .before .before .before .before .before .before .before .args .e) (c .before .before .before .before .before .if1 .left) (c .before .before .before .before .if2 .left) (c .before .before .before .before .before .before .before .args .rest .now)
+
+operand-of-returns-5 : (t : ℕ) → operand-of-lts.Need-returns-5 (claims t) (operand-of-at t) operand-of.Post
+operand-of-returns-5 t c =
+    let s = c .before .before .before .before .before .before .before .before .before .before .args .rest .now in
+    c .one-more .ensures
+    ∙ ap oneMore (c .before .operand-of .ensures ∙ ap (operandAt (entryAt (c .before .before .before .before .f .given .0 .0))) (part-rest 1 s))
+    ∙ sym (ap (λ (x : Behind). behindOf x (c .before .before .before .before .before .before .before .before .before .before .args .rest .now)) (c .before .before .before .before .f .given .1)) ∙ c .before .before .before .before .before .before .behind-x .ensures .0 ∙ operand-x (c .before .before .before .before .before .before .before .before .before .before .args .e) (c .before .before .before .before .before .before .before .before .if1 .left) (c .before .before .before .before .before .before .before .if2 .left) (c .before .before .before .before .before .before .before .before .before .before .args .rest .now)
+
+pub +operand-of-spec : {M : Type 1} → statement M
++operand-of-spec = close μ-operand-of λ t. operand-of-lts.spec (claims t)
+    (operand-of-at t)
+    operand-of.Post
+    (operand-of-by-numeral-requires t)
+    (operand-of-returns t)
+    (operand-of-returns-2 t)
+    (operand-of-behind-x-requires t)
+    (operand-of-enum-known-k t)
+    (operand-of-enum-known-n t)
+    (operand-of-enum-known-f t)
+    (operand-of-sub-operand-of t)
+    (operand-of-part-operand-of-start t)
+    (operand-of-part-operand-of-end t)
+    (operand-of-operand-of-requires t)
+    (operand-of-one-more-requires t)
+    (operand-of-returns-3 t)
+    (operand-of-returns-4 t)
+    (operand-of-returns-5 t)

@@ -1,0 +1,54 @@
+-- The scan of the digits that follow is the numeral of the definition.
+use mathlib.Core.Path.{sym, _∙_}
+use borrow.Author.Needs.{needs}
+use denote.Ref.{now}
+use Rattle.format.proofs.Numerals.{missing-is, large-is, value-is}
+use Rattle.format.proofs.operand.by_numeral.Statement.{statement}
+use Rattle.format.proofs.operand.by_numeral.Tie as tie
+
+read-requires : tie.Need-read-requires
+read-requires c κs = search needs
+
+enum-told : tie.Need-enum-told
+enum-told c = search needs
+
+without-numeral-requires : tie.Need-without-numeral-requires
+without-numeral-requires c κs = search needs
+
+enum-told-2 : tie.Need-enum-told-2
+enum-told-2 c = search needs
+
+enum-known-n : tie.Need-enum-known-n
+enum-known-n c = search needs
+
+with-numeral-requires : tie.Need-with-numeral-requires
+with-numeral-requires c κs = search needs
+
+returns : tie.Need-returns
+returns c =
+    let b = c .before .before .before .before .before in
+    missing-is (b .args .e) (b .pre .0) (b .pre .1) (now (b .args .rest)) (sym (c .before .before .before .read .ensures) ∙ c .before .enum-told .given .1) _ (c .without-numeral .ensures)
+
+returns-2 : tie.Need-returns-2
+returns-2 c =
+    let b = c .before .before .before .before in
+    large-is (b .args .e) (b .pre .0) (b .pre .1) (now (b .args .rest)) (sym (c .before .before .read .ensures) ∙ c .enum-told2 .given .1)
+
+returns-3 : tie.Need-returns-3
+returns-3 c =
+    let b = c .before .before .before .before .before .before in
+    value-is (b .args .e) (b .pre .0) (b .pre .1) (now (b .args .rest)) _ _ (sym (c .before .before .before .before .read .ensures) ∙ c .before .before .n .given .1) _ (c .with-numeral .ensures)
+
+pub by-numeral-spec : {M : Type 1} → statement M
+by-numeral-spec =
+    tie.close
+    (tie.spec
+    read-requires
+    enum-told
+    without-numeral-requires
+    enum-told-2
+    enum-known-n
+    with-numeral-requires
+    returns
+    returns-2
+    returns-3)

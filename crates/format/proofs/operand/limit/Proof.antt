@@ -1,0 +1,24 @@
+-- The tests are those of the definition, in its order.
+use mathlib.Core.Path.{sym, _∙_}
+use borrow.Author.Needs.{needs}
+use borrow.Author.Tests.{le-leb, lt-leb}
+use Rattle.format.proofs.operand.limit.Statement.{statement}
+use Rattle.format.proofs.operand.limit.Tie as tie
+
+returns : tie.Need-returns
+returns c = rw (lt-leb 1 _ (c .if1 .taken))
+
+returns-2 : tie.Need-returns-2
+returns-2 c = rw (le-leb 1 _ (c .before .if1 .left), lt-leb _ 16 (c .if2 .taken))
+
+is-power-requires : tie.Need-is-power-requires
+is-power-requires c κs = search needs
+
+returns-3 : tie.Need-returns-3
+returns-3 c = rw (le-leb 1 _ (c .before .before .before .if1 .left), le-leb _ 16 (c .before .before .if2 .left), sym (c .before .is-power .ensures) ∙ c .if3 .taken)
+
+returns-4 : tie.Need-returns-4
+returns-4 c = rw (le-leb 1 _ (c .before .before .before .if1 .left), le-leb _ 16 (c .before .before .if2 .left), sym (c .before .is-power .ensures) ∙ c .if3 .left)
+
+pub limit-spec : {M : Type 1} → statement M
+limit-spec = tie.close (tie.spec returns returns-2 is-power-requires returns-3 returns-4)

@@ -1,0 +1,20 @@
+-- The range of the entry tells the operand that the option has by itself.
+use borrow.Author.Needs.{needs}
+use Rattle.format.proofs.Entries.{sized-by, size-missing, chars-by, limit-by}
+use Rattle.format.proofs.operand.without_numeral.Statement.{statement}
+use Rattle.format.proofs.operand.without_numeral.Tie as tie
+
+size-of-requires : tie.Need-size-of-requires
+size-of-requires c κs = search needs
+
+returns : tie.Need-returns
+returns c = rw (sized-by _ (c .before .before .pre .0) (c .before .if1 .taken) _, size-missing, c .size-of .ensures)
+
+returns-2 : tie.Need-returns-2
+returns-2 c = rw (chars-by _ (c .before .if1 .left) (c .if2 .taken) _)
+
+returns-3 : tie.Need-returns-3
+returns-3 c = rw (limit-by _ (c .if2 .left) (c .before .before .pre .1) _)
+
+pub without-numeral-spec : {M : Type 1} → statement M
+without-numeral-spec = tie.close (tie.spec size-of-requires returns returns-2 returns-3)

@@ -1,0 +1,12 @@
+-- The constant has the numbers of the packed table.
+use mathlib.Core.Path.{refl}
+use Rattle.format.specs.Packed.{packed}
+use Rattle.format.proofs.options.table.Statement.{statement}
+use Rattle.format.proofs.options.table.Tie as tie
+
+returns : tie.Need-returns
+unfolding packed
+returns c = refl
+
+pub table-spec : {M : Type 1} → statement M
+table-spec = tie.close (tie.spec returns)

@@ -1,0 +1,94 @@
+-- The operand of an option: its size, limit, length or alignment. What an item does is its option's class with its operand.
+use Prim.Native.Nat.{ℕ, _+_, _^_, _≤_, _<_}
+use mathlib.Core.List.{List}
+use lib.ListN.{length, drop}
+use Rattle.definition.specs.Answers.{Checked, refused, accepted, _>>=_}
+use Rattle.definition.specs.Items.{takenBy, nextByte, numeralOf}
+use Rattle.definition.specs.Ops.{sizeOr, limitOr, needed, naturalOf}
+use Rattle.definition.specs.declared.Class.{Class}
+use Rattle.definition.specs.declared.Class.the-variants as Class
+use Rattle.definition.specs.declared.NumeralRule.{NumeralRule}
+use Rattle.definition.specs.declared.NumeralRule.the-variants.{Nothing, Digits, DigitsBehindX, NextByte}
+use Rattle.definition.specs.declared.Entry.{Entry}
+use Rattle.definition.specs.declared.Numeral.{Numeral}
+use Rattle.definition.specs.declared.Numeral.the-variants.{Missing}
+use Rattle.definition.specs.declared.Op.{Op}
+use Rattle.definition.specs.declared.Op.the-variants as Op
+use Rattle.definition.specs.declared.Field.the-variants as Field
+use Rattle.definition.specs.declared.Setting.the-variants as Setting
+use Rattle.format.specs.Packed.{entryAt}
+use Rattle.format.specs.declared.operand.Operand.{Operand}
+use Rattle.format.specs.declared.operand.Operand.the-variants as Operand
+use Rattle.format.specs.declared.operand.Behind.{Behind}
+use Rattle.format.specs.declared.operand.Behind.the-variants as Behind
+
+-- the operand by class, size and numeral, of any option but X
+abbrev pub operandBy : Class → ℕ → Numeral → Checked ℕ
+operandBy Class.NoOption n m = refused 1
+operandBy Class.Blank n m = accepted n
+operandBy (Class.Order o) n m = accepted n
+operandBy Class.Limit n m = limitOr n m
+operandBy (Class.Number k) n m = sizeOr n m
+operandBy Class.Chars n m = needed m
+operandBy Class.ZeroEnded n m = accepted n
+operandBy Class.Counted n m = sizeOr n m
+operandBy Class.Fill n m = accepted n
+operandBy Class.Align n m = refused 7
+
+-- by what the option takes
+abbrev pub operandWith : NumeralRule → Entry → List ℕ → Checked ℕ
+operandWith Nothing e s = operandBy (e .class) (e .size) Missing
+operandWith Digits e s = operandBy (e .class) (e .size) (numeralOf s)
+operandWith DigitsBehindX e s = operandBy (e .class) (e .size) Missing
+operandWith NextByte e s = naturalOf s
+
+-- what an option of a class does, with its operand
+abbrev pub opFor : Class → ℕ → Op
+opFor Class.NoOption n = Op.Blank
+opFor Class.Blank n = Op.Blank
+opFor (Class.Order o) n = Op.Set (Setting.Order o)
+opFor Class.Limit n = Op.Set (Setting.Limit n)
+opFor (Class.Number k) n = Op.Put (Field.Number k n)
+opFor Class.Chars n = Op.Put (Field.Chars n)
+opFor Class.ZeroEnded n = Op.Put Field.ZeroEnded
+opFor Class.Counted n = Op.Put (Field.Counted n)
+opFor Class.Fill n = Op.Pad 1 1
+opFor Class.Align n = Op.Pad n 0
+
+-- a number, and how many bytes are taken
+abbrev pub taking : ℕ → Checked ℕ → Checked (ℕ × ℕ)
+taking i c = c >>= λ n. accepted (n, i)
+
+-- the operand of an option with the entry e, what follows its byte being s; and how many bytes it takes
+unfoldable pub operandAt : Entry → List ℕ → Checked (ℕ × ℕ)
+operandAt e s = taking (length (takenBy (e .rule) s)) (operandWith (e .rule) e (takenBy (e .rule) s))
+
+-- the alignment of X, what follows it being s; and how many bytes it takes
+unfoldable pub naturalAt : List ℕ → Checked (ℕ × ℕ)
+naturalAt s = taking (length (nextByte s)) (naturalOf (nextByte s))
+
+-- one byte more is taken
+abbrev pub oneMore : Checked (ℕ × ℕ) → Checked (ℕ × ℕ)
+oneMore c = c >>= λ r. accepted (r .0, r .1 + 1)
+
+-- ---- what the answers say
+abbrev pub operandOf : Operand → Checked (ℕ × ℕ)
+operandOf (Operand.Refused k) = refused k
+operandOf (Operand.Of n i) = accepted (n, i)
+
+-- one byte more can be counted
+abbrev pub roomFor1 : Operand → Type 0
+roomFor1 (Operand.Refused k) = Unit {0}
+roomFor1 (Operand.Of n i) = i + 1 < 2 ^ 64
+
+-- the answer on s, which follows X
+abbrev pub behindOf : Behind → List ℕ → Checked (ℕ × ℕ)
+behindOf (Behind.Refused k) s = refused k
+behindOf (Behind.By n i) s = accepted (n, i)
+behindOf (Behind.Numeral e) s = oneMore (operandAt (entryAt e) (drop 1 s))
+
+-- an option that stands behind X with a numeral of its own
+abbrev pub numeralBehind : Behind → List ℕ → Type 0
+numeralBehind (Behind.Refused k) s = Unit {0}
+numeralBehind (Behind.By n i) s = Unit {0}
+numeralBehind (Behind.Numeral e) s = (128 ≤ e) × (0 < length s)

@@ -1,0 +1,76 @@
+-- The last digit comes after the digits of n / 10, which is less than n.
+use Prim.Native.Nat.{ℕ, _<_}
+use native.Mathlib.Omega.{arith}
+use borrow.Fn.Kinds.{In}
+use borrow.Fn.PlainCycle.{Measures, is, falls, and}
+use lib.ListN.{length-set}
+use Rattle.line.proofs.Buffers.{one-digit, digit-inside, last-digit}
+use Rattle.line.proofs.put_decimal.Reads as put-decimal
+use Rattle.line.proofs.put_decimal.Kinds as put-decimal-kinds
+use Rattle.line.proofs.+put_decimal.Lts-put_decimal as put-decimal-lts
+use Rattle.line.proofs.digit.Reads as digit-reads
+use Rattle.line.proofs.+put_decimal.{statement}
+use Rattle.line.proofs.+put_decimal.Tie.{close}
+
+abbrev μ-put-decimal : Measures 1 put-decimal-kinds.ps ℕ
+μ-put-decimal κs a = a .1 .1 .0
+
+abbrev put-decimal-at : ℕ → In 1 put-decimal-kinds.ps
+put-decimal-at t =
+    and 1 put-decimal-kinds.ps (is 1 put-decimal-kinds.ps μ-put-decimal t) put-decimal.Pre
+
+abbrev put-decimal-below : ℕ → In 1 put-decimal-kinds.ps
+put-decimal-below t =
+    and 1 put-decimal-kinds.ps (falls 1 put-decimal-kinds.ps _<_ μ-put-decimal t) put-decimal.Pre
+
+abbrev claims : ℕ → put-decimal-lts.Claims
+claims t = (digit-reads.Asked, digit-reads.Learnt, put-decimal-below t, put-decimal.Post)
+
+put-decimal-digit-requires : (t : ℕ) → put-decimal-lts.Need-digit-requires (claims t) (put-decimal-at t) put-decimal.Post
+put-decimal-digit-requires t c κs = c .if1 .taken
+
+put-decimal-slice-write-out : (t : ℕ) → put-decimal-lts.Need-slice-write-out (claims t) (put-decimal-at t) put-decimal.Post
+put-decimal-slice-write-out t c = omega arith
+
+put-decimal-add-result : (t : ℕ) → put-decimal-lts.Need-add-result (claims t) (put-decimal-at t) put-decimal.Post
+put-decimal-add-result t c = omega arith
+
+put-decimal-same-length : (t : ℕ) → put-decimal-lts.Need-same-length (claims t) (put-decimal-at t) put-decimal.Post
+put-decimal-same-length t c = simp length-set
+
+put-decimal-returns : (t : ℕ) → put-decimal-lts.Need-returns (claims t) (put-decimal-at t) put-decimal.Post
+put-decimal-returns t c = let a = c .before .before .before .args in one-digit (a .out .now) (a .at) (a .n) _ (c .before .if1 .taken) (c .digit .ensures) (omega arith)
+
+put-decimal-put-decimal-requires : (t : ℕ) → put-decimal-lts.Need-put-decimal-requires (claims t) (put-decimal-at t) put-decimal.Post
+put-decimal-put-decimal-requires t c κs = (omega arith, c .before .before .before .pre .1)
+
+put-decimal-digit-requires-2 : (t : ℕ) → put-decimal-lts.Need-digit-requires-2 (claims t) (put-decimal-at t) put-decimal.Post
+put-decimal-digit-requires-2 t c κs = omega arith
+
+put-decimal-slice-write-out-2 : (t : ℕ) → put-decimal-lts.Need-slice-write-out-2 (claims t) (put-decimal-at t) put-decimal.Post
+put-decimal-slice-write-out-2 t c = digit-inside (c .before .before .before .before .before .before .before .args .out .now) (c .before .before .before .before .before .before .before .args .at) (c .before .before .before .before .before .before .before .args .n) (c .before .before .before .put-decimal .result) (c .before .before .before .put-decimal .last .0) (c .before .before .before .before .before .before .before .fits .n .fits) (c .before .before .before .before .before .before .before .pre .1) (c .before .before .before .put-decimal .ensures .0) (c .before .before .before .put-decimal .kept .0)
+
+put-decimal-add-result-2 : (t : ℕ) → put-decimal-lts.Need-add-result-2 (claims t) (put-decimal-at t) put-decimal.Post
+put-decimal-add-result-2 t c = omega (arith, digit-inside (c .before .before .before .before .before .before .before .args .out .now) (c .before .before .before .before .before .before .before .args .at) (c .before .before .before .before .before .before .before .args .n) (c .before .before .before .put-decimal .result) (c .before .before .before .put-decimal .last .0) (c .before .before .before .before .before .before .before .fits .n .fits) (c .before .before .before .before .before .before .before .pre .1) (c .before .before .before .put-decimal .ensures .0) (c .before .before .before .put-decimal .kept .0))
+
+put-decimal-same-length-2 : (t : ℕ) → put-decimal-lts.Need-same-length-2 (claims t) (put-decimal-at t) put-decimal.Post
+put-decimal-same-length-2 t c = simp length-set (c .before .before .before .put-decimal .kept .0)
+
+put-decimal-returns-2 : (t : ℕ) → put-decimal-lts.Need-returns-2 (claims t) (put-decimal-at t) put-decimal.Post
+put-decimal-returns-2 t c = last-digit (c .before .before .before .before .before .before .before .args .out .now) (c .before .before .before .before .before .before .before .args .at) (c .before .before .before .before .before .before .before .args .n) (c .before .before .before .put-decimal .result) (c .before .before .before .put-decimal .last .0) (c .before .before .before .before .before .before .before .fits .n .fits) (c .before .before .before .before .before .before .before .pre .1) (c .before .before .before .put-decimal .ensures .0) (c .digit2 .result) (c .before .before .before .before .before .if1 .left) (c .before .before .before .put-decimal .ensures .1) (c .digit2 .ensures)
+
+pub +put-decimal-spec : {M : Type 1} → statement M
++put-decimal-spec = close μ-put-decimal λ t. put-decimal-lts.spec (claims t)
+    (put-decimal-at t)
+    put-decimal.Post
+    (put-decimal-digit-requires t)
+    (put-decimal-slice-write-out t)
+    (put-decimal-add-result t)
+    (put-decimal-same-length t)
+    (put-decimal-returns t)
+    (put-decimal-put-decimal-requires t)
+    (put-decimal-digit-requires-2 t)
+    (put-decimal-slice-write-out-2 t)
+    (put-decimal-add-result-2 t)
+    (put-decimal-same-length-2 t)
+    (put-decimal-returns-2 t)

@@ -1,0 +1,33 @@
+-- A first line that is too long is refused, and any other is measured.
+use mathlib.Core.Path.{sym, _∙_}
+use borrow.Author.Needs.{needs}
+use denote.Ref.{now}
+use lib.Seq.{length-take-le}
+use Rattle.line.proofs.Inputs.{answer-long, answer-short}
+use Rattle.line.proofs.answer.Statement.{statement}
+use Rattle.line.proofs.answer.Tie as tie
+
+first-line-requires : tie.Need-first-line-requires
+first-line-requires c κs = search needs
+
+returns : tie.Need-returns
+returns c = answer-long (now (c .before .before .before .args .input)) (c .before .first-line .result) (c .before .first-line .ensures .1) (c .before .first-line .ensures .0) (c .if1 .taken)
+
+slice-aggregate-string-packsize : tie.Need-slice-aggregate-string-packsize
+slice-aggregate-string-packsize c = sym (length-take-le (c .before .before .first-line .result) (c .before .before .before .before .args .input .now) (c .before .before .first-line .ensures .0))
+
+string-packsize-requires : tie.Need-string-packsize-requires
+string-packsize-requires c κs = search needs
+
+returns-2 : tie.Need-returns-2
+returns-2 c = c .string-packsize .ensures ∙ answer-short (now (c .before .before .before .before .before .args .input)) (c .before .before .before .first-line .result) (c .before .before .before .first-line .ensures .1) (c .before .before .before .first-line .ensures .0) (c .before .before .if1 .left)
+
+pub answer-spec : {M : Type 1} → statement M
+answer-spec =
+    tie.close
+    (tie.spec
+    first-line-requires
+    returns
+    slice-aggregate-string-packsize
+    string-packsize-requires
+    returns-2)

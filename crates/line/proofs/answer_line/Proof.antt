@@ -1,0 +1,60 @@
+-- The label tells the two answers apart.
+use mathlib.Core.Path.{sym, ap, _∙_}
+use borrow.Author.Needs.{needs}
+use denote.Ref.{now}
+use Rattle.definition.specs.Program.{printed}
+use Rattle.line.proofs.Inputs.{printed-refused, printed-size, held}
+use Rattle.measure.specs.Measured.{measuredOf}
+use Rattle.line.proofs.answer_line.Statement.{statement}
+use Rattle.line.proofs.answer_line.Tie as tie
+
+answer-requires : tie.Need-answer-requires
+answer-requires c κs = search needs
+
+enum-known-k : tie.Need-enum-known-k
+enum-known-k c = search needs
+
+slice-aggregate-put-line : tie.Need-slice-aggregate-put-line
+slice-aggregate-put-line c = search needs
+
+wide-requires : tie.Need-wide-requires
+wide-requires c κs = search needs
+
+put-line-requires : tie.Need-put-line-requires
+put-line-requires c κs = search needs
+
+enum-known-n : tie.Need-enum-known-n
+enum-known-n c = search needs
+
+slice-aggregate-put-line-2 : tie.Need-slice-aggregate-put-line-2
+slice-aggregate-put-line-2 c = search needs
+
+put-line-requires-2 : tie.Need-put-line-requires-2
+put-line-requires-2 c κs = search needs
+
+returns : tie.Need-returns
+returns c =
+    let a = c .before .before .before .before .before .before .before .before .before .args in
+    let told = sym (c .before .before .before .before .before .before .before .answer .ensures) ∙ ap measuredOf (c .before .before .before .before .before .k .given .1) in
+    held (printed (now (a .input))) _ (printed-refused (now (a .input)) _ (c .before .wide .result) told (c .before .wide .ensures)) (c .put-line .result) (c .put-line .last .0) (now (a .out)) (c .put-line .ensures)
+
+returns-2 : tie.Need-returns-2
+returns-2 c =
+    let a = c .before .before .before .before .before .before .before .before .args in
+    let told = sym (c .before .before .before .before .before .before .answer .ensures) ∙ ap measuredOf (c .before .before .before .before .n .given .1) in
+    held (printed (now (a .input))) _ (printed-size (now (a .input)) _ told) (c .put-line2 .result) (c .put-line2 .last .0) (now (a .out)) (c .put-line2 .ensures)
+
+pub answer-line-spec : {M : Type 1} → statement M
+answer-line-spec =
+    tie.close
+    (tie.spec
+    answer-requires
+    enum-known-k
+    slice-aggregate-put-line
+    wide-requires
+    put-line-requires
+    enum-known-n
+    slice-aggregate-put-line-2
+    put-line-requires-2
+    returns
+    returns-2)

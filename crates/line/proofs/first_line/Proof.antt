@@ -1,0 +1,52 @@
+-- The invariant: the first line is what is passed, and the first line of the rest. The measure is what is left of the input.
+use Prim.Native.Nat.{_-_, _≤_}
+use mathlib.Core.List.{_++_}
+use mathlib.Core.Path.{_≡_, refl}
+use native.Mathlib.Omega.{arith}
+use denote.Ref.{now}
+use lib.ListN.{length, take, drop}
+use Rattle.definition.specs.Program.{firstLine}
+use Rattle.line.proofs.Inputs.{line-stop, line-end, line-on}
+use Rattle.line.proofs.first_line.Statement.{statement}
+use Rattle.line.proofs.first_line.Tie as tie
+
+abbrev Inv-loop : tie.InvT-loop
+Inv-loop input i₀ i = (i ≤ length input) × (take i input ++ firstLine (drop i input) ≡ firstLine input)
+
+abbrev μ-loop : tie.MeasureT-loop
+μ-loop input i₀ i = length input - i
+
+loop-holds : tie.Need-loop-holds Inv-loop μ-loop
+loop-holds c = (omega arith, refl)
+
+shared-slice-read-if1 : tie.Need-shared-slice-read-if1 Inv-loop μ-loop
+shared-slice-read-if1 c = omega arith
+
+returns : tie.Need-returns Inv-loop μ-loop
+returns c = (c .before .before .before .loop .inv .0, line-stop (now (c .before .before .before .before .args .input)) (c .before .before .before .loop .i) (c .before .before .before .loop .inv .1) (c .before .before .loop-test .taken) (c .if1 .taken))
+
+add-i : tie.Need-add-i Inv-loop μ-loop
+add-i c = omega arith
+
+loop-less : tie.Need-loop-less Inv-loop μ-loop
+loop-less c = omega arith
+
+loop-again : tie.Need-loop-again Inv-loop μ-loop
+loop-again c = (omega arith, line-on (now (c .before .before .before .before .args .input)) (c .before .before .before .loop .i) (c .before .before .before .loop .inv .1) (c .before .before .loop-test .taken) (c .if1 .left))
+
+returns-2 : tie.Need-returns-2 Inv-loop μ-loop
+returns-2 c = (c .before .loop .inv .0, line-end (now (c .before .before .args .input)) (c .before .loop .i) (c .before .loop .inv .1) (c .loop-test .left))
+
+pub first-line-spec : {M : Type 1} → statement M
+first-line-spec =
+    tie.close
+    (tie.spec
+    Inv-loop
+    μ-loop
+    loop-holds
+    shared-slice-read-if1
+    returns
+    add-i
+    loop-less
+    loop-again
+    returns-2)

@@ -1,0 +1,41 @@
+-- The label, the number and the line feed stand one behind the other.
+use mathlib.Core.Path.{_∙_}
+use mathlib.Core.List.{[], _∷_}
+use native.Mathlib.Omega.{arith}
+use borrow.Author.Needs.{needs}
+use denote.Ref.{now}
+use Rattle.definition.specs.Program.{decimal}
+use Rattle.line.proofs.Buffers.{length-20, line-length, line-held}
+use Rattle.line.proofs.put_line.Statement.{statement}
+use Rattle.line.proofs.put_line.Tie as tie
+
+put-requires : tie.Need-put-requires
+put-requires c κs = search needs
+
+put-decimal-requires : tie.Need-put-decimal-requires
+put-decimal-requires c κs = search needs
+
+slice-aggregate-put : tie.Need-slice-aggregate-put
+slice-aggregate-put c = search needs
+
+put-requires-2 : tie.Need-put-requires-2
+put-requires-2 c κs = omega (arith, c .before .before .before .before .put-decimal .ensures .0, c .before .before .before .before .put-decimal .kept .0, c .before .before .before .before .before .before .before .before .put .ensures .0, c .before .before .before .before .before .before .before .before .put .kept .0, length-20 (c .before .before .before .before .before .before .before .before .before .before .before .before .args .n), c .before .before .before .before .before .before .before .before .before .before .before .before .pre)
+
+same-length : tie.Need-same-length
+same-length c = c .before .before .put2 .kept .0 ∙ c .before .before .before .before .before .before .before .put-decimal .kept .0 ∙ c .before .before .before .before .before .before .before .before .before .before .before .put .kept .0
+
+returns : tie.Need-returns
+returns c =
+    let a = c .before .before .before .before .before .before .before .before .before .before .before .before .before .before .before .args in
+    let l = now (a .label) in
+    let x = c .before .before .before .before .before .before .before .before .before .before .before .put in
+    let y = c .before .before .before .before .before .before .before .put-decimal in
+    let z = c .before .before .put2 in (
+      line-length l (decimal (a .n)) (10 ∷ []) (x .result) (y .result) (z .result) (x .ensures .0) (y .ensures .0) (z .ensures .0),
+      line-held (now (a .out)) l (decimal (a .n)) (10 ∷ []) (x .result) (y .result) (x .ensures .0) (y .ensures .0) (omega (arith, length-20 (a .n), c .before .before .before .before .before .before .before .before .before .before .before .before .before .before .before .pre)) (x .last .0) (y .last .0) (z .last .0) (x .ensures .1) (y .ensures .1) (z .ensures .1),
+    )
+
+pub put-line-spec : {M : Type 1} → statement M
+put-line-spec =
+    tie.close
+    (tie.spec put-requires put-decimal-requires slice-aggregate-put put-requires-2 same-length returns)

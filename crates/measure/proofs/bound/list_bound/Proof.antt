@@ -1,0 +1,22 @@
+-- The data length is tested first.
+use mathlib.Core.Path.{_∙_}
+use borrow.Author.Needs.{needs}
+use denote.Ref.{now}
+use Rattle.measure.proofs.Sizes.{bound-21, bound-short}
+use Rattle.measure.proofs.bound.list_bound.Statement.{statement}
+use Rattle.measure.proofs.bound.list_bound.Tie as tie
+
+returns : tie.Need-returns
+returns c = bound-21 (now (c .before .before .args .format)) (c .before .before .args .data-length) (c .if1 .taken)
+
+table-requires : tie.Need-table-requires
+table-requires c κs = search needs
+
+bound-by-requires : tie.Need-bound-by-requires
+bound-by-requires c κs = search needs
+
+returns-2 : tie.Need-returns-2
+returns-2 c = c .bound-by .ensures ∙ bound-short (now (c .before .before .before .before .before .args .format)) (c .before .before .before .before .before .args .data-length) (c .before .before .before .if1 .left)
+
+pub list-bound-spec : {M : Type 1} → statement M
+list-bound-spec = tie.close (tie.spec returns table-requires bound-by-requires returns-2)

@@ -1,0 +1,19 @@
+-- Each setting changes its own part of the state.
+use borrow.Author.Needs.{needs}
+use Rattle.measure.proofs.size.set.Statement.{statement}
+use Rattle.measure.proofs.size.set.Tie as tie
+
+enum-known-x : tie.Need-enum-known-x
+enum-known-x c = search needs
+
+enum-known-x-2 : tie.Need-enum-known-x-2
+enum-known-x-2 c = search needs
+
+returns : tie.Need-returns
+returns c = rw (c .before .x .given .1)
+
+returns-2 : tie.Need-returns-2
+returns-2 c = rw (c .before .x2 .given .1)
+
+pub set-spec : {M : Type 1} → statement M
+set-spec = tie.close (tie.spec enum-known-x enum-known-x-2 returns returns-2)

@@ -1,0 +1,9 @@
+-- What each case of an answer says: the number of a refusal, or the size.
+use Prim.Native.Nat.{ℕ}
+use Rattle.definition.specs.Answers.{Checked, refused, accepted}
+use Rattle.measure.specs.declared.size.Measured.{Measured}
+use Rattle.measure.specs.declared.size.Measured.the-variants as Measured
+
+abbrev pub measuredOf : Measured → Checked ℕ
+measuredOf (Measured.Refused k) = refused k
+measuredOf (Measured.Size n) = accepted n

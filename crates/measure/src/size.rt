@@ -1,0 +1,124 @@
+// The size of a format.
+use align::Amount;
+use align::Next as Stepped;
+use align::longer;
+use align::padding;
+use definition::Field;
+use definition::Op;
+use definition::Setting;
+use definition::State;
+use format::cursor::Cursor;
+use format::cursor::Next;
+use format::options::table;
+ghost use mathlib.Core.Path.{_≡_};
+ghost use Rattle.definition.specs.States as states;
+ghost use Rattle.definition.specs.Measuring.{measurePad, measureOp, measure};
+ghost use Rattle.definition.specs.Calls.{stringPacksize};
+ghost use Rattle.align.specs.Amounts.{stateOf};
+ghost use Rattle.format.specs.Packed.{packed};
+ghost use Rattle.measure.specs.Fields.{measureField};
+ghost use Rattle.measure.specs.Measured.{measuredOf};
+
+// The number of a refusal, or a size.
+pub enum Measured {
+    Refused(u8),
+    Size(u64),
+}
+
+// The state after a setting.
+pub fn set(s: State, x: Setting) -> State
+    ensures { λ r. ⌜ r ≡ states.set x s ⌝ }
+{
+    match x {
+        Setting::Order(big) => State {
+            big,
+            limit: s.limit,
+            length: s.length,
+        },
+        Setting::Limit(limit) => State {
+            big: s.big,
+            limit,
+            length: s.length,
+        },
+    }
+}
+
+// The state after an alignment and n bytes. Mostly there is nothing to fill up.
+fn measure_pad(s: State, natural: u64, n: u64) -> Stepped
+    ensures { λ r. ⌜ stateOf r ≡ measurePad s natural n ⌝ }
+{
+    match padding(s, natural) {
+        Amount::Refused(k) => Stepped::Refused(k),
+        Amount::Bytes(p) => {
+            if p == 0 {
+                return longer(s, n);
+            }
+            match longer(s, p) {
+                Stepped::Refused(k) => Stepped::Refused(k),
+                Stepped::State(t) => longer(t, n),
+            }
+        }
+    }
+}
+
+// The state after a field.
+fn measure_field(s: State, f: Field) -> Stepped
+    ensures { λ r. ⌜ stateOf r ≡ measureField s f ⌝ }
+{
+    match f {
+        Field::Number(_, n) => measure_pad(s, n, n),
+        Field::Chars(n) => measure_pad(s, 1, n),
+        Field::ZeroEnded => Stepped::Refused(10),
+        Field::Counted(_) => Stepped::Refused(10),
+    }
+}
+
+// The state after an item.
+fn measure_op(s: State, op: Op) -> Stepped
+    ensures { λ r. ⌜ stateOf r ≡ measureOp s op ⌝ }
+{
+    match op {
+        Op::Blank => Stepped::State(s),
+        Op::Set(x) => Stepped::State(set(s, x)),
+        Op::Pad(n, k) => measure_pad(s, n, k),
+        Op::Put(f) => measure_field(s, f),
+    }
+}
+
+// The size of a format, by the option table.
+fn measure_by(table: &[u8; 256], format: &[u8]) -> Measured
+    requires { ⌜ now table ≡ packed ⌝ }
+    ensures { λ r. ⌜ measuredOf r ≡ measure (now (format .entry)) ⌝ }
+{
+    let mut c = Cursor::new();
+    let mut s = State {
+        big: false,
+        limit: 1,
+        length: 0,
+    };
+    loop {
+        match c.next(table, format) {
+            Next::End => return Measured::Size(s.length),
+            Next::Refused(k) => return Measured::Refused(k),
+            Next::Item(i, d) => match measure_op(s, i.op()) {
+                Stepped::Refused(k) => return Measured::Refused(k),
+                Stepped::State(t) => {
+                    s = State {
+                        big: t.big,
+                        limit: t.limit,
+                        length: t.length,
+                    };
+                    c = d;
+                }
+            },
+        }
+    }
+}
+
+// The size of a format.
+pub fn string_packsize(format: &[u8]) -> Measured
+    ensures { λ r. ⌜ measuredOf r ≡ stringPacksize (now (format .entry)) ⌝ }
+{
+    let options = table();
+    measure_by(&options, format)
+}

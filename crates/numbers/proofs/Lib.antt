@@ -1,0 +1,6 @@
+pub mod Signs
+pub mod Digits
+pub mod Integers
+pub mod Remainders
+pub mod Wrapping
+pub mod WholeNumbers

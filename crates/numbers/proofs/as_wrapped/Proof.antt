@@ -1,0 +1,64 @@
+-- `as_wrapped` meets its contract: by the kind of the value.
+use mathlib.Core.Path.{sym, ap, subst}
+use mathlib.Core.Option.{some}
+use lib.Dec.{T}
+use lib.Ieee.{binary64, fits, nanBits}
+use lib.Ieee.Bits.{ofBits-toBits}
+use Rattle.numbers.proofs.Signs.{nan-of-bits}
+use borrow.Author.Needs.{needs}
+use Rattle.numbers.proofs.as_wrapped.Statement.{statement}
+use Rattle.numbers.proofs.as_wrapped.Tie as tie
+
+enum-told : tie.Need-enum-told
+enum-told c = search needs
+
+enum-known-v : tie.Need-enum-known-v
+enum-known-v c = search needs
+
+wrapped-requires : tie.Need-wrapped-requires
+wrapped-requires c κs = search needs
+
+enum-told-2 : tie.Need-enum-told-2
+enum-told-2 c = search needs
+
+enum-told-3 : tie.Need-enum-told-3
+enum-told-3 c = search needs
+
+enum-told-4 : tie.Need-enum-told-4
+enum-told-4 c = search needs
+
+returns : tie.Need-returns
+returns c l = rw (c .enum-told .given .1)
+
+returns-2 : tie.Need-returns-2
+returns-2 c l =
+    let x = c .before .before .v .given .0 .0 in
+    let f : T (fits binary64 x) = subst T (sym (c .before .known-told .given .0 .1)) tt in
+    rw (c .before .before .v .given .1, ofBits-toBits binary64 x f) (ap some (c .wrapped .ensures))
+
+returns-3 : tie.Need-returns-3
+returns-3 c l =
+    let nan : T (nanBits binary64 (c .enum-told2 .given .0 .0)) = rw (c .enum-told2 .given .1) at (c .before .before .pre) in
+    rw (c .enum-told2 .given .1, nan-of-bits (c .enum-told2 .given .0 .0) nan)
+
+returns-4 : tie.Need-returns-4
+returns-4 c l = rw (c .enum-told3 .given .1)
+
+returns-5 : tie.Need-returns-5
+returns-5 c l = rw (c .enum-told4 .given .1)
+
+pub as-wrapped-spec : {M : Type 1} → statement M
+as-wrapped-spec =
+    tie.close
+    (tie.spec
+    enum-told
+    enum-known-v
+    wrapped-requires
+    enum-told-2
+    enum-told-3
+    enum-told-4
+    returns
+    returns-2
+    returns-3
+    returns-4
+    returns-5)

@@ -1,0 +1,55 @@
+-- The invariant: the digits from i on have the value and the end of all digits at the front. The measure is what is left of the text.
+use Prim.Native.Nat.{_+_, _-_, _<_}
+use mathlib.Core.Path.{_≡_, refl, _∙_}
+use native.Mathlib.Nat.{zero-add}
+use native.Mathlib.Omega.{arith}
+use lib.ListN.{length, drop}
+use Rattle.definition.specs.Items.{digits, value}
+use Rattle.numeral.proofs.Digits.{zero-value, zero-length}
+use Rattle.numeral.proofs.skip_zeros.Statement.{statement}
+use Rattle.numeral.proofs.skip_zeros.Tie as tie
+
+abbrev Inv-loop : tie.InvT-loop
+Inv-loop text i₀ i = (value 0 (digits (drop i text)) ≡ value 0 (digits text)) × (i + length (digits (drop i text)) ≡ length (digits text))
+
+abbrev μ-loop : tie.MeasureT-loop
+μ-loop text i₀ i = length text - i
+
+loop-holds : tie.Need-loop-holds Inv-loop μ-loop
+loop-holds c = (refl, zero-add _)
+
+shared-slice-read-if1 : tie.Need-shared-slice-read-if1 Inv-loop μ-loop
+shared-slice-read-if1 c = omega arith
+
+returns : tie.Need-returns Inv-loop μ-loop
+returns c = c .before .before .before .loop .inv
+
+add-i : tie.Need-add-i Inv-loop μ-loop
+add-i c = omega arith
+
+loop-less : tie.Need-loop-less Inv-loop μ-loop
+loop-less c = omega arith
+
+loop-again : tie.Need-loop-again Inv-loop μ-loop
+loop-again c =
+    let s = c .before .before .before .before .args .text .now in
+    let l = c .before .before .before .loop in
+    let h : l .i < length s = omega arith in
+    (zero-value s (l .i) h (c .if1 .left) ∙ l .inv .0, zero-length s (l .i) h (c .if1 .left) ∙ l .inv .1)
+
+returns-2 : tie.Need-returns-2 Inv-loop μ-loop
+returns-2 c = c .before .loop .inv
+
+pub skip-zeros-spec : {M : Type 1} → statement M
+skip-zeros-spec =
+    tie.close
+    (tie.spec
+    Inv-loop
+    μ-loop
+    loop-holds
+    shared-slice-read-if1
+    returns
+    add-i
+    loop-less
+    loop-again
+    returns-2)

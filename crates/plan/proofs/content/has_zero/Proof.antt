@@ -1,0 +1,51 @@
+-- What was found among the bytes passed is whether there was a zero.
+use mathlib.Core.Path.{_≡_, refl, sym, ap, _∙_}
+use Prim.Native.Nat.{ℕ, _+_, _-_, _≤_}
+use native.Mathlib.Omega.{arith}
+use mathlib.Core.Logic.{⊎-elim}
+use lib.ListN.{length, take, drop}
+use Rattle.definition.specs.Fields.{hasZero}
+use Rattle.plan.proofs.Contents.{more-zero, more-other}
+use Rattle.plan.proofs.content.has_zero.Statement.{statement}
+use Rattle.plan.proofs.content.has_zero.Tie as tie
+
+abbrev Inv-loop : tie.InvT-loop
+Inv-loop list start n found₀ i₀ found i = (i ≤ n) × (start + n ≤ length list) × (found ≡ hasZero (take i (drop start list)))
+
+abbrev μ-loop : tie.MeasureT-loop
+μ-loop list start n found₀ i₀ found i = n - i
+
+loop-holds : tie.Need-loop-holds Inv-loop μ-loop
+loop-holds c = (omega arith, c .pre, refl)
+
+add-if1 : tie.Need-add-if1 Inv-loop μ-loop
+add-if1 c = omega arith
+
+shared-slice-read-if1 : tie.Need-shared-slice-read-if1 Inv-loop μ-loop
+shared-slice-read-if1 c = omega arith
+
+add-i : tie.Need-add-i Inv-loop μ-loop
+add-i c = omega arith
+
+loop-less : tie.Need-loop-less Inv-loop μ-loop
+loop-less c = omega arith
+
+loop-again : tie.Need-loop-again Inv-loop μ-loop
+loop-again c = ⊎-elim (λ w. (omega arith, c .before .before .before .loop .inv .1, w .1 ∙ sym (more-zero (c .before .before .before .before .args .list .now) (c .before .before .before .before .args .start) (c .before .before .before .before .args .n) (c .before .before .before .loop .i) (c .before .before .before .loop .inv .1) (omega arith) (w .0 .taken)))) (λ w. (omega arith, c .before .before .before .loop .inv .1, w .1 ∙ c .before .before .before .loop .inv .2 ∙ sym (more-other (c .before .before .before .before .args .list .now) (c .before .before .before .before .args .start) (c .before .before .before .before .args .n) (c .before .before .before .loop .i) (c .before .before .before .loop .inv .1) (omega arith) (w .0 .left)))) (c .if1 .came)
+
+returns : tie.Need-returns Inv-loop μ-loop
+returns c = let e : c .before .loop .i ≡ c .before .before .args .n = omega arith in c .before .loop .inv .2 ∙ ap (λ (k : ℕ). hasZero (take k (drop (c .before .before .args .start) (c .before .before .args .list .now)))) e
+
+pub has-zero-spec : {M : Type 1} → statement M
+has-zero-spec =
+    tie.close
+    (tie.spec
+    Inv-loop
+    μ-loop
+    loop-holds
+    add-if1
+    shared-slice-read-if1
+    add-i
+    loop-less
+    loop-again
+    returns)

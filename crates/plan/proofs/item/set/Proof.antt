@@ -1,0 +1,22 @@
+-- Each setting changes one part of the state.
+use mathlib.Core.Path.{_≡_, refl, sym, ap, _∙_}
+use Rattle.definition.specs.States as states
+use Rattle.definition.specs.declared.Setting.{Setting}
+use borrow.Author.Needs.{needs}
+use Rattle.plan.proofs.item.set.Statement.{statement}
+use Rattle.plan.proofs.item.set.Tie as tie
+
+enum-known-x : tie.Need-enum-known-x
+enum-known-x c = search needs
+
+enum-known-x-2 : tie.Need-enum-known-x-2
+enum-known-x-2 c = search needs
+
+returns : tie.Need-returns
+returns c = sym (ap (λ (x : Setting). states.set x (c .before .before .before .args .s)) (c .before .x .given .1))
+
+returns-2 : tie.Need-returns-2
+returns-2 c = sym (ap (λ (x : Setting). states.set x (c .before .before .before .args .s)) (c .before .x2 .given .1))
+
+pub set-spec : {M : Type 1} → statement M
+set-spec = tie.close (tie.spec enum-known-x enum-known-x-2 returns returns-2)

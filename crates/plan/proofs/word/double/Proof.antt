@@ -1,0 +1,19 @@
+-- The number that was found, or 12.
+use mathlib.Core.Path.{_≡_, refl, sym, ap, _∙_}
+use Rattle.plan.specs.Words.{patternOr}
+use Rattle.plan.proofs.Words.{double-word}
+use borrow.Author.Needs.{needs}
+use Rattle.plan.proofs.word.double.Statement.{statement}
+use Rattle.plan.proofs.word.double.Tie as tie
+
+as-number-requires : tie.Need-as-number-requires
+as-number-requires c κs = search needs
+
+pattern-requires : tie.Need-pattern-requires
+pattern-requires c κs = search needs
+
+returns : tie.Need-returns
+returns c = λ l n. c .pattern .ensures .0 ∙ ap patternOr (c .before .as-number .ensures l) ∙ sym (double-word _ n)
+
+pub double-spec : {M : Type 1} → statement M
+double-spec = tie.close (tie.spec as-number-requires pattern-requires returns)

@@ -1,0 +1,120 @@
+-- Each kind has its own function.
+use Rattle.definition.specs.declared.Kind.the-variants.{LuaUnsigned}
+use Rattle.plan.proofs.Words.{of-kind, of-size, same-small, signed-from-1, lua-size}
+use mathlib.Core.Path.{_≡_, refl, sym, ap, _∙_}
+use borrow.Author.Needs.{needs}
+use Rattle.plan.proofs.word.word_of.Statement.{statement}
+use Rattle.plan.proofs.word.word_of.Tie as tie
+
+enum-told : tie.Need-enum-told
+enum-told c = search needs
+
+any-integer-requires : tie.Need-any-integer-requires
+any-integer-requires c κs = search needs
+
+enum-told-2 : tie.Need-enum-told-2
+enum-told-2 c = search needs
+
+any-integer-requires-2 : tie.Need-any-integer-requires-2
+any-integer-requires-2 c κs = search needs
+
+enum-told-3 : tie.Need-enum-told-3
+enum-told-3 c = search needs
+
+signed-requires : tie.Need-signed-requires
+signed-requires c κs = (c .before .before .pre .0, signed-from-1 (c .before .before .args .kind) (c .before .before .args .size) (c .before .before .pre .1) (c .enum-told3 .given .1))
+
+enum-told-4 : tie.Need-enum-told-4
+enum-told-4 c = search needs
+
+unsigned-requires : tie.Need-unsigned-requires
+unsigned-requires c κs = search needs
+
+enum-told-5 : tie.Need-enum-told-5
+enum-told-5 c = search needs
+
+lua-integer-requires : tie.Need-lua-integer-requires
+lua-integer-requires c κs = search needs
+
+enum-told-6 : tie.Need-enum-told-6
+enum-told-6 c = search needs
+
+lua-unsigned-requires : tie.Need-lua-unsigned-requires
+lua-unsigned-requires c κs = search needs
+
+enum-told-7 : tie.Need-enum-told-7
+enum-told-7 c = search needs
+
+size-word-requires : tie.Need-size-word-requires
+size-word-requires c κs = search needs
+
+enum-told-8 : tie.Need-enum-told-8
+enum-told-8 c = search needs
+
+single-requires : tie.Need-single-requires
+single-requires c κs = search needs
+
+enum-told-9 : tie.Need-enum-told-9
+enum-told-9 c = search needs
+
+double-requires : tie.Need-double-requires
+double-requires c κs = search needs
+
+returns : tie.Need-returns
+returns c = λ l. of-kind (c .before .before .before .args .size) _ (c .any-integer .ensures l (c .before .before .before .args .size)) (c .before .enum-told .given .1)
+
+returns-2 : tie.Need-returns-2
+returns-2 c = λ l. of-kind (c .before .before .before .args .size) _ (c .any-integer2 .ensures l (c .before .before .before .args .size) ∙ same-small (c .before .before .before .args .size) _) (c .before .enum-told2 .given .1)
+
+returns-3 : tie.Need-returns-3
+returns-3 c = λ l. of-kind (c .before .before .before .args .size) _ (c .signed .ensures l) (c .before .enum-told3 .given .1)
+
+returns-4 : tie.Need-returns-4
+returns-4 c = λ l. of-kind (c .before .before .before .args .size) _ (c .unsigned .ensures l) (c .before .enum-told4 .given .1)
+
+returns-5 : tie.Need-returns-5
+returns-5 c = λ l. of-kind (c .before .before .before .args .size) _ (c .lua-integer .ensures l (c .before .before .before .args .size)) (c .before .enum-told5 .given .1)
+
+returns-6 : tie.Need-returns-6
+returns-6 c = λ l. of-kind (c .before .before .before .args .size) _ (of-size LuaUnsigned 8 (c .before .before .before .args .size) _ (c .lua-unsigned .ensures l) (lua-size (c .before .before .before .args .kind) (c .before .before .before .args .size) (c .before .before .before .pre .1) (c .before .enum-told6 .given .1))) (c .before .enum-told6 .given .1)
+
+returns-7 : tie.Need-returns-7
+returns-7 c = λ l. of-kind (c .before .before .before .args .size) _ (c .size-word .ensures l (c .before .before .before .args .size)) (c .before .enum-told7 .given .1)
+
+returns-8 : tie.Need-returns-8
+returns-8 c = λ l. of-kind (c .before .before .before .args .size) _ (c .single .ensures l (c .before .before .before .args .size)) (c .before .enum-told8 .given .1)
+
+returns-9 : tie.Need-returns-9
+returns-9 c = λ l. of-kind (c .before .before .before .args .size) _ (c .double .ensures l (c .before .before .before .args .size)) (c .before .enum-told9 .given .1)
+
+pub word-of-spec : {M : Type 1} → statement M
+word-of-spec =
+    tie.close
+    (tie.spec
+    enum-told
+    any-integer-requires
+    enum-told-2
+    any-integer-requires-2
+    enum-told-3
+    signed-requires
+    enum-told-4
+    unsigned-requires
+    enum-told-5
+    lua-integer-requires
+    enum-told-6
+    lua-unsigned-requires
+    enum-told-7
+    size-word-requires
+    enum-told-8
+    single-requires
+    enum-told-9
+    double-requires
+    returns
+    returns-2
+    returns-3
+    returns-4
+    returns-5
+    returns-6
+    returns-7
+    returns-8
+    returns-9)

@@ -1,0 +1,43 @@
+// "An offset counts from 0, a position from 1": the one place where the two are converted.
+use coder::words::extent;
+use definition::Offset;
+use definition::Position;
+ghost use mathlib.Core.Path.{_≡_};
+ghost use Prim.Native.Nat.{_-_, _<_, _^_};
+ghost use Rattle.definition.specs.Reading.{offsetOf, positionOf};
+ghost use Rattle.position.specs.Starts.{startedOf};
+
+// What a start position gives: the offset, unless it lies outside the data.
+pub enum Started {
+    At(Offset),
+    Outside,
+}
+
+// The offset of a start in data of so many bytes: 1..length+1 from the front, -length..-1 from the end.
+pub fn offset_of(start: i64, length: usize) -> Started
+    ensures { λ r. ⌜ startedOf r ≡ offsetOf start length ⌝ }
+{
+    let n = extent(start);
+    let len = length as u64;
+    if start < 0 {
+        if n < len {
+            Started::At(Offset(len - n - 1))
+        } else {
+            Started::Outside
+        }
+    } else if n == 0 {
+        Started::Outside
+    } else if n - 1 <= len {
+        Started::At(Offset(n - 1))
+    } else {
+        Started::Outside
+    }
+}
+
+// The position of an offset.
+pub fn position_of(offset: Offset) -> Position
+    requires { ⌜ offset .0 < 2 ^ 64 - 1 ⌝ }
+    ensures { λ r. ⌜ r ≡ positionOf offset ⌝ }
+{
+    Position(offset.0 + 1)
+}

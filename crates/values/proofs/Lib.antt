@@ -1,0 +1,5 @@
+pub mod Loading
+pub mod Storing
+pub mod Contents
+pub mod Fields
+pub mod Lists

@@ -1,0 +1,86 @@
+-- `fields_after` meets its contract. The loop's invariant: the fields left, of the list from `at`, leave what all of them leave of the whole.
+use Prim.Native.Nat.{_+_, _≤_, _<_, _-_}
+use mathlib.Core.Path.{_≡_, refl, sym, ap, _∙_}
+use native.Mathlib.Omega.{arith}
+use lib.ListN.{length, drop}
+use lib.Seq.{drop-length}
+use denote.Ref.{now}
+use borrow.Author.Needs.{needs}
+use Rattle.definition.specs.Lists.{fieldsAfter}
+use Rattle.values.specs.Meaning.{sizeAt, Complete}
+use Rattle.values.proofs.Fields.{after-next, after-short}
+use Rattle.values.proofs.fields_after.Statement.{statement}
+use Rattle.values.proofs.fields_after.Tie as tie
+
+abbrev Inv-loop : tie.InvT-loop
+Inv-loop list k at₀ left₀ at left = (at ≤ length list) × (fieldsAfter left (drop at list) ≡ fieldsAfter k list)
+
+abbrev μ-loop : tie.MeasureT-loop
+μ-loop list k at₀ left₀ at left = left
+
+loop-holds : tie.Need-loop-holds Inv-loop μ-loop
+loop-holds c = (omega arith, refl)
+
+length-at-requires : tie.Need-length-at-requires Inv-loop μ-loop
+length-at-requires c κs = c .before .loop .inv .0
+
+enum-known-n : tie.Need-enum-known-n Inv-loop μ-loop
+enum-known-n c = search needs
+
+enum-told : tie.Need-enum-told Inv-loop μ-loop
+enum-told c = search needs
+
+returns : tie.Need-returns Inv-loop μ-loop
+returns c =
+    let l = now (c .before .before .before .before .before .before .args .list) in
+    let i = c .before .before .before .before .loop in
+    let short : length l < i .at + 3 + sizeAt l (i .at) = rw (c .enum-told .given .1) at (c .before .before .length-at .ensures) in
+    record { rest = drop-length l ∙ sym (sym (i .inv .1) ∙ after-short l (i .at) (i .left) (c .before .before .before .loop-test .taken) (omega arith)); within = omega arith }
+
+complete : (c : tie.After-known-told Inv-loop μ-loop) → Complete (now (c .before .before .before .before .before .before .before .args .list)) (c .before .before .before .before .before .loop .at) (c .before .n .given .0 .0)
+complete c = rw (c .before .n .given .1) at (c .before .before .before .length-at .ensures)
+
+add-at : tie.Need-add-at Inv-loop μ-loop
+add-at c = omega (arith, complete c .within)
+
+add-at-2 : tie.Need-add-at-2 Inv-loop μ-loop
+add-at-2 c = omega (arith, complete c .within)
+
+sub-left : tie.Need-sub-left Inv-loop μ-loop
+sub-left c = c .before .before .before .before .loop-test .taken
+
+loop-less : tie.Need-loop-less Inv-loop μ-loop
+loop-less c = omega (arith, c .before .before .before .before .loop-test .taken)
+
+loop-again : tie.Need-loop-again Inv-loop μ-loop
+loop-again c =
+    let l = now (c .before .before .before .before .before .before .before .args .list) in
+    let i = c .before .before .before .before .before .loop in
+    let h = complete c in
+    (h .within, ap (λ n. fieldsAfter (i .left - 1) (drop (i .at + 3 + n) l)) (h .size .is) ∙ sym (after-next l (i .at) (i .left) (c .before .before .before .before .loop-test .taken)) ∙ i .inv .1)
+
+returns-2 : tie.Need-returns-2 Inv-loop μ-loop
+unfolding fieldsAfter
+returns-2 c =
+    let l = now (c .before .before .before .args .list) in
+    let i = c .before .loop in
+    let none-left : i .left ≡ 0 = omega arith in
+    record { rest = ap (λ k. fieldsAfter k (drop (i .at) l)) (sym none-left) ∙ i .inv .1; within = i .inv .0 }
+
+pub fields-after-spec : {M : Type 1} → statement M
+fields-after-spec =
+    tie.close
+    (tie.spec
+    Inv-loop
+    μ-loop
+    loop-holds
+    length-at-requires
+    enum-known-n
+    enum-told
+    returns
+    add-at
+    add-at-2
+    sub-left
+    loop-less
+    loop-again
+    returns-2)

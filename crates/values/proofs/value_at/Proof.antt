@@ -1,0 +1,59 @@
+-- `value_at` meets its contract: by the tag, which the content suits.
+use mathlib.Core.Path.{_≡_, _∙_}
+use native.Mathlib.Omega.{arith}
+use lib.Dec.{lit≤}
+use mir.Syntax.{w64}
+use mir.Val.{toZ, ofZ}
+use mir.Facts.{toZ-ofZ}
+use denote.Ref.{now}
+use Rattle.definition.specs.Bytes.{signed}
+use Rattle.values.proofs.Contents.{text-value, other-value, number-eight, integer-value, float-value}
+use borrow.Author.Needs.{needs}
+use Rattle.values.proofs.value_at.Statement.{statement}
+use Rattle.values.proofs.value_at.Tie as tie
+
+shared-slice-read-tag : tie.Need-shared-slice-read-tag
+shared-slice-read-tag c = search needs
+
+add-start : tie.Need-add-start
+add-start c = search needs
+
+returns : tie.Need-returns
+returns c = text-value (now (c .before .before .before .args .list)) (c .before .before .before .args .at) (c .before .before .before .args .n) (c .before .before .before .pre) (c .if1 .taken)
+
+returns-2 : tie.Need-returns-2
+returns-2 c = other-value (now (c .before .before .before .before .args .list)) (c .before .before .before .before .args .at) (c .before .before .before .before .args .n) (c .before .before .before .before .pre) (c .if2 .taken)
+
+eight : (c : tie.Else2) → c .before .before .before .before .args .n ≡ 8
+eight c = number-eight (now (c .before .before .before .before .args .list)) (c .before .before .before .before .args .at) (c .before .before .before .before .args .n) (c .before .before .before .before .pre) (c .before .if1 .left) (c .if2 .left)
+
+number-at-requires : tie.Need-number-at-requires
+number-at-requires c κs = (lit≤ tt, omega (arith, eight c, c .before .before .before .before .pre .complete .within))
+
+to-signed-requires : tie.Need-to-signed-requires
+to-signed-requires c κs = search needs
+
+returns-3 : tie.Need-returns-3
+returns-3 c =
+    let z : toZ w64 (ofZ w64 (c .to-signed .result)) ≡ signed 8 (c .before .before .number-at .result) = toZ-ofZ (record { sfits = c .to-signed .ok }) ∙ c .to-signed .ensures in
+    rw z (integer-value (now (c .before .before .before .before .before .before .before .args .list)) (c .before .before .before .before .before .before .before .args .at) (c .before .before .before .before .before .before .before .args .n) (c .before .before .before .before .before .before .before .pre) (eight (c .before .before .before)) (c .before .before .number-at .result) (c .before .before .number-at .ensures) (c .before .if3 .taken))
+
+float-of-requires : tie.Need-float-of-requires
+float-of-requires c κs = search needs
+
+returns-4 : tie.Need-returns-4
+returns-4 c = float-value (now (c .before .before .before .before .before .before .before .args .list)) (c .before .before .before .before .before .before .before .args .at) (c .before .before .before .before .before .before .before .args .n) (c .before .before .before .before .before .before .before .pre) (eight (c .before .before .before)) (c .before .before .number-at .result) (c .before .before .number-at .ensures) (c .before .before .before .before .if1 .left) (c .before .before .before .if2 .left) (c .before .if3 .left) (c .float-of .result) (c .float-of .ensures)
+
+pub value-at-spec : {M : Type 1} → statement M
+value-at-spec =
+    tie.close
+    (tie.spec
+    shared-slice-read-tag
+    add-start
+    returns
+    returns-2
+    number-at-requires
+    to-signed-requires
+    returns-3
+    float-of-requires
+    returns-4)

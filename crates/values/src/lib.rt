@@ -1,0 +1,238 @@
+// The fields of a value list: a tag, a length in two bytes, big-endian, and content.
+use coder::reading::get_word;
+use coder::words::to_signed;
+use coder::words::to_word;
+use coder::writing::put;
+use coder::writing::put_copy;
+ghost use mathlib.Core.Path.{_≡_};
+ghost use mathlib.Core.List.{[], _∷_, _++_};
+ghost use Prim.Native.Nat.{_+_, _≤_, _<_};
+ghost use lib.ListN.{length, take, drop};
+ghost use lib.Seq.{paste};
+ghost use Rattle.definition.specs.Values as definition;
+ghost use Rattle.definition.specs.Lists.{big, values, listOf};
+ghost use Rattle.values.specs.Loading.{Loaded};
+ghost use Rattle.values.specs.Meaning.{FloatRead, LengthRead, suits, Whole, ContentRead, ValueRead, FieldRead, isAccepted, After};
+
+// A value of a list.
+pub enum Value {
+    Integer(i64),
+    // A float that is no NaN.
+    Float(f64),
+    // A NaN, by its bits.
+    NotANumber(u64),
+    // Where the text starts in the list, and its length.
+    Text(usize, usize),
+    Other,
+}
+
+// What stands at an offset of a list: a value, with the offset of the next field; the end; or a field that is malformed.
+pub enum Field {
+    Found(Value, usize),
+    End,
+    Malformed,
+}
+
+// The tags, and the number of bytes before a field's content.
+const TAG_OTHER: u8 = 0;
+
+const TAG_INTEGER: u8 = 1;
+
+const TAG_FLOAT: u8 = 2;
+
+const TAG_TEXT: u8 = 3;
+
+const HEAD: usize = 3;
+
+// A float's sign, and the bits of infinity, above which, the sign left out, are the bits of the NaNs.
+const SIGN: u64 = 0x8000_0000_0000_0000;
+
+const INFINITY: u64 = 0x7ff0_0000_0000_0000;
+
+// ---- reading
+
+// The number that n bytes of a list write, the highest first.
+fn number_at(list: &[u8], at: usize, n: usize) -> u64
+    requires { ⌜ (n ≤ 8) × (at + n ≤ length (now list)) ⌝ }
+    ensures { λ r. ⌜ Loaded (now (list .entry)) at n r ⌝ }
+{
+    get_word(list, at, n, true)
+}
+
+// The length of a field's content, or a field that is malformed.
+enum Content {
+    Length(usize),
+    Malformed,
+}
+
+// The length that the field at an offset says, where the list has as many bytes.
+fn length_at(list: &[u8], at: usize) -> Content
+    requires { ⌜ at ≤ length (now list) ⌝ }
+    ensures { λ r. ⌜ LengthRead (now (list .entry)) at r ⌝ }
+{
+    if list.len() - at < HEAD {
+        return Content::Malformed;
+    }
+    let n = number_at(list, at + 1, 2) as usize;
+    if list.len() - at - HEAD < n {
+        return Content::Malformed;
+    }
+    Content::Length(n)
+}
+
+// Whether a content of n bytes suits a tag.
+fn length_suits(tag: u8, n: usize) -> bool
+    ensures { λ r. ⌜ r ≡ suits tag n ⌝ }
+{
+    if tag == TAG_TEXT {
+        return true;
+    }
+    if tag == TAG_OTHER {
+        return n == 0;
+    }
+    if tag <= TAG_FLOAT {
+        return n == 8;
+    }
+    false
+}
+
+// The content of the field at an offset.
+fn content_at(list: &[u8], at: usize) -> Content
+    requires { ⌜ at < length (now list) ⌝ }
+    ensures { λ r. ⌜ ContentRead (now (list .entry)) at r ⌝ }
+{
+    let Content::Length(n) = length_at(list, at) else {
+        return Content::Malformed;
+    };
+    if length_suits(list[at], n) {
+        return Content::Length(n);
+    }
+    Content::Malformed
+}
+
+// The float of 64 bits.
+fn float_of(b: u64) -> Value
+    ensures { λ r. ⌜ FloatRead b r ⌝ }
+{
+    if b % SIGN > INFINITY {
+        Value::NotANumber(b)
+    } else {
+        Value::Float(f64::from_bits(b))
+    }
+}
+
+// The value of the field at an offset, which has a content of n bytes.
+fn value_at(list: &[u8], at: usize, n: usize) -> Value
+    requires { ⌜ Whole (now list) at n ⌝ }
+    ensures { λ r. ⌜ ValueRead (now (list .entry)) at n r ⌝ }
+{
+    let tag = list[at];
+    let start = at + HEAD;
+    if tag == TAG_TEXT {
+        return Value::Text(start, n);
+    }
+    if tag == TAG_OTHER {
+        return Value::Other;
+    }
+    let b = number_at(list, start, 8);
+    if tag == TAG_INTEGER {
+        return Value::Integer(to_signed(b));
+    }
+    float_of(b)
+}
+
+// The field at an offset.
+pub fn field_at(list: &[u8], at: usize) -> Field
+    ensures { λ r. ⌜ FieldRead (now (list .entry)) at r ⌝ }
+{
+    if at >= list.len() {
+        return Field::End;
+    }
+    match content_at(list, at) {
+        Content::Length(n) => Field::Found(value_at(list, at, n), at + HEAD + n),
+        Content::Malformed => Field::Malformed,
+    }
+}
+
+// Whether the list is fields and nothing else.
+pub fn is_list(list: &[u8]) -> bool
+    ensures { λ r. ⌜ r ≡ isAccepted (values (now (list .entry))) ⌝ }
+{
+    let mut at = 0;
+    while at < list.len() {
+        match content_at(list, at) {
+            Content::Length(n) => at = at + HEAD + n,
+            Content::Malformed => return false,
+        }
+    }
+    true
+}
+
+// Where the list after its first k fields starts: at its end where there are fewer.
+pub fn fields_after(list: &[u8], k: u64) -> usize
+    ensures { λ r. ⌜ After (now (list .entry)) k r ⌝ }
+{
+    let mut at = 0;
+    let mut left = k;
+    while left > 0 {
+        let Content::Length(n) = length_at(list, at) else {
+            return list.len();
+        };
+        at = at + HEAD + n;
+        left -= 1;
+    }
+    at
+}
+
+// ---- writing
+
+// The n lowest bytes of a number, the highest first.
+fn put_number(out: &mut [u8], at: usize, n: usize, v: u64)
+    requires { ⌜ (n ≤ 8) × (at + n ≤ length (now out)) ⌝ }
+    ensures { λ _. ⌜ now (out .exit) ≡ paste (now (out .entry)) at (big n v) n ⌝ }
+{
+    put(out, at, n, true, v, 0)
+}
+
+// A field's tag and length.
+fn put_head(out: &mut [u8], at: usize, tag: u8, n: u64)
+    requires { ⌜ at + 3 ≤ length (now out) ⌝ }
+    ensures { λ _. ⌜ now (out .exit) ≡ paste (now (out .entry)) at (tag ∷ big 2 n) 3 ⌝ }
+{
+    out[at] = tag;
+    put_number(out, at + 1, 2, n);
+}
+
+// A field whose content is eight bytes. The content goes first, so that its stores become one.
+fn put_eight(out: &mut [u8], at: usize, tag: u8, word: u64)
+    requires { ⌜ at + 11 ≤ length (now out) ⌝ }
+    ensures { λ _. ⌜ now (out .exit) ≡ paste (now (out .entry)) at (tag ∷ big 2 8 ++ big 8 word) 11 ⌝ }
+{
+    put_number(out, at + HEAD, 8, word);
+    put_head(out, at, tag, 8);
+}
+
+// The field of an integer.
+pub fn put_integer(out: &mut [u8], at: usize, z: i64)
+    requires { ⌜ at + 11 ≤ length (now out) ⌝ }
+    ensures { λ _. ⌜ now (out .exit) ≡ paste (now (out .entry)) at (listOf (definition.integer z ∷ [])) 11 ⌝ }
+{
+    put_eight(out, at, TAG_INTEGER, to_word(z));
+}
+
+// The field of a float, of its 64 bits.
+pub fn put_float(out: &mut [u8], at: usize, bits: u64)
+    requires { ⌜ at + 11 ≤ length (now out) ⌝ }
+    ensures { λ _. ⌜ now (out .exit) ≡ paste (now (out .entry)) at (listOf (definition.float bits ∷ [])) 11 ⌝ }
+{
+    put_eight(out, at, TAG_FLOAT, bits);
+}
+
+// The field of a text: the n bytes of source from start.
+pub fn put_text(out: &mut [u8], at: usize, source: &[u8], start: usize, n: usize)
+    requires { ⌜ at + 3 + n ≤ length (now out) ⌝ ∗ ⌜ start + n ≤ length (now source) ⌝ }
+    ensures { λ _. ⌜ now (out .exit) ≡ paste (now (out .entry)) at (listOf (definition.text (take n (drop start (now (source .entry)))) ∷ [])) (3 + n) ⌝ }
+{
+    put_head(out, at, TAG_TEXT, n as u64);
+    put_copy(out, at + HEAD, source, start, n);
+}

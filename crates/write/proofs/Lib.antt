@@ -1,0 +1,4 @@
+pub mod Pasting
+pub mod Walking
+pub mod Filling
+pub mod Calls

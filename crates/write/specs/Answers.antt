@@ -1,0 +1,23 @@
+-- What the answers of writing say, in document 01's numbers and values.
+use Prim.Native.Nat.{ℕ}
+use mathlib.Core.List.{List}
+use Rattle.definition.specs.Answers.{Checked, refused, accepted}
+use Rattle.definition.specs.Calls.{Call, call}
+use Rattle.definition.specs.declared.Continued.{Continued}
+use Rattle.write.specs.declared.Packed.{Packed}
+use Rattle.write.specs.declared.Packed.the-variants as Packed
+use Rattle.write.specs.declared.check.Total.{Total}
+use Rattle.write.specs.declared.check.Total.the-variants as Total
+
+-- the totals of a pass
+abbrev pub totalIs : Total → Checked Continued
+totalIs (Total.Refused k) = refused k
+totalIs (Total.Of c) = accepted c
+
+-- a call's answer, with what its buffer then holds
+abbrev pub continuedIs : Total → List ℕ → Call Continued
+continuedIs r b = call (totalIs r) b
+
+abbrev pub packedIs : Packed → List ℕ → Call ℕ
+packedIs (Packed.Refused k) b = call (refused k) b
+packedIs (Packed.Length n) b = call (accepted n) b

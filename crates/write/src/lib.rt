@@ -1,0 +1,58 @@
+// Writing: the values of a list, by a format, into a lent buffer.
+pub mod check;
+pub mod emit;
+pub mod fill;
+
+use crate::check::Total;
+use crate::check::check;
+use crate::fill::fill;
+use align::is_sound;
+use definition::State;
+use format::options::OPTIONS;
+use values::is_list;
+ghost use mathlib.Core.Path.{_≡_};
+ghost use Rattle.definition.specs.Calls.{packContinued, stringPack};
+ghost use Rattle.write.specs.Answers.{continuedIs, packedIs};
+
+// Continued writing: the record stands at the buffer's front, and no other byte has changed; or a refusal, and none has.
+pub fn pack_continued(state: State, format: &[u8], list: &[u8], out: &mut [u8]) -> Total
+    ensures { λ r. ⌜ continuedIs r (now (out .exit)) ≡ packContinued state (now (format .entry)) (now (list .entry)) (now (out .entry)) ⌝ }
+{
+    if !is_sound(state) {
+        return Total::Refused(21);
+    }
+    if !is_list(list) {
+        return Total::Refused(21);
+    }
+    let table = OPTIONS;
+    let total = check(&table, format, list, state);
+    let Total::Of(c) = total else {
+        return total;
+    };
+    if (out.len() as u64) < c.written {
+        return Total::Refused(22);
+    }
+    fill(&table, format, list, state, out);
+    Total::Of(c)
+}
+
+// What plain writing answers: the length of the record, or the number of a refusal.
+pub enum Packed {
+    Refused(u8),
+    Length(u64),
+}
+
+// Plain writing.
+pub fn string_pack(format: &[u8], list: &[u8], out: &mut [u8]) -> Packed
+    ensures { λ r. ⌜ packedIs r (now (out .exit)) ≡ stringPack (now (format .entry)) (now (list .entry)) (now (out .entry)) ⌝ }
+{
+    let start = State {
+        big: false,
+        limit: 1,
+        length: 0,
+    };
+    match pack_continued(start, format, list, out) {
+        Total::Refused(k) => Packed::Refused(k),
+        Total::Of(c) => Packed::Length(c.written),
+    }
+}
