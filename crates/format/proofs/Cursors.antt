@@ -108,3 +108,11 @@ plain-op e n = go (eqb e 112) (eqb e 113) (eqb e 114) (eqb e 115)
     go false false true d = refl
     go false false false true = refl
     go false false false false = refl
+
+-- X, and what is no option
+pub align-op : (e n : ℕ) → 208 ≤ e → Op.Pad n 0 ≡ opAt e n
+align-op e n l = go (ltb e 224) refl
+  where
+    go : (t : Bool) → ltb e 224 ≡ t → Op.Pad n 0 ≡ opAt e n
+    go true q = rw (at-align e l (ltb-true e 224 q))
+    go false q = rw (at-none e (ltb-false e 224 q))

@@ -42,9 +42,9 @@ operandWith Digits e s = operandBy (e .class) (e .size) (numeralOf s)
 operandWith DigitsBehindX e s = operandBy (e .class) (e .size) Missing
 operandWith NextByte e s = naturalOf s
 
--- what an option of a class does, with its operand
+-- what an option of a class does, with its operand; a byte that is no option has none, and may stand with X
 abbrev pub opFor : Class → ℕ → Op
-opFor Class.NoOption n = Op.Blank
+opFor Class.NoOption n = Op.Pad n 0
 opFor Class.Blank n = Op.Blank
 opFor (Class.Order o) n = Op.Set (Setting.Order o)
 opFor Class.Limit n = Op.Set (Setting.Limit n)

@@ -1,7 +1,6 @@
 // Reads the items of a format, one after the other.
 use crate::operand::Operand;
 use crate::operand::operand_at;
-use crate::options::ALIGN_END;
 use crate::options::CHARS_END;
 use crate::options::COUNTED_END;
 use crate::options::FIXED_END;
@@ -80,10 +79,7 @@ impl Item {
         if e < LIMIT_END {
             return Op::Set(Setting::Limit(n));
         }
-        if e < ALIGN_END {
-            return Op::Pad(n, 0);
-        }
-        Op::Blank
+        Op::Pad(n, 0)
     }
 }
 

@@ -1,8 +1,8 @@
 -- The range of the entry tells the class.
 use mathlib.Core.Path.{_∙_}
 use borrow.Author.Needs.{needs}
-use Rattle.format.proofs.Cursors.{plain-op}
-use Rattle.format.proofs.Entries.{at-fixed, at-plain, at-signed, at-unsigned, at-counted, at-chars, at-limit, at-align, at-none}
+use Rattle.format.proofs.Cursors.{plain-op, align-op}
+use Rattle.format.proofs.Entries.{at-fixed, at-plain, at-signed, at-unsigned, at-counted, at-chars, at-limit}
 use Rattle.format.proofs.cursor.Item.op.Statement.{statement}
 use Rattle.format.proofs.cursor.Item.op.Tie as tie
 
@@ -34,10 +34,7 @@ returns-7 : tie.Need-returns-7
 returns-7 c = rw (at-limit _ (c .before .if6 .left) (c .if7 .taken))
 
 returns-8 : tie.Need-returns-8
-returns-8 c = rw (at-align _ (c .before .if7 .left) (c .if8 .taken))
-
-returns-9 : tie.Need-returns-9
-returns-9 c = rw (at-none _ (c .if8 .left))
+returns-8 c = align-op _ _ (c .if7 .left)
 
 pub op-spec : {M : Type 1} → statement M
 op-spec =
@@ -52,5 +49,4 @@ op-spec =
     returns-5
     returns-6
     returns-7
-    returns-8
-    returns-9)
+    returns-8)

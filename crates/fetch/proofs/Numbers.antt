@@ -1,0 +1,144 @@
+-- What a number reads is what the definition decodes.
+use Prim.Native.Nat.{ℕ, _+_, _-_, _^_, _≤_, _<_}
+use native.Mathlib.Omega.{arith}
+use mathlib.Core.Path.{_≡_, refl, sym, ap, _∙_, subst}
+use mathlib.Core.Bool.{Bool}
+use mathlib.Core.List.{List, [], _∷_}
+use lib.Dec.{T, eqb→eq}
+use lib.IntN.{ℤ}
+use lib.ListN.{length, drop, length-drop}
+use lib.Signed.{mag}
+use mir.Syntax.{w64}
+use mir.Val.{toZ, ofZ}
+use mir.Facts.{toZ-ofZ}
+use types.Run.{OneOf, miss}
+use denote.Enum.Declared.{tagOf}
+use borrow.Author.Tests.{lt-leb}
+use Rattle.single.specs.Single.{fromSingle}
+use Rattle.definition.specs.Answers.{Checked, refused, accepted, _>>=_}
+use Rattle.definition.specs.Bytes.{total, signed}
+use Rattle.definition.specs.Values.{Value, integer, float}
+use Rattle.definition.specs.Fields.{first, number, unsigned, valueBy, decode}
+use Rattle.definition.specs.declared.Kind.{Kind}
+use Rattle.definition.specs.declared.Kind.the-variants.{SmallSigned, SmallUnsigned, Signed, Unsigned, LuaInteger, LuaUnsigned, Size, Single, Double}
+use Rattle.definition.specs.declared.Field.the-variants as Field
+use Rattle.definition.proofs.Kind.{the-type}
+use Rattle.definition.proofs.Numbers.{validSize}
+use Rattle.coder.specs.Digits.{lowBytes}
+use Rattle.coder.specs.Numbers.{unsignedAt, signedAt}
+use Rattle.definition.proofs.Bytes.{number-is}
+use Rattle.fetch.specs.Readings.{valuesOf, Inside, Decodes}
+use Rattle.fetch.specs.declared.decode.Reading.{Reading}
+use Rattle.fetch.specs.declared.decode.Reading.the-variants.{Integer, Float}
+use Rattle.fetch.specs.declared.decode.Decoded.{Decoded}
+use Rattle.fetch.specs.declared.decode.Decoded.the-variants as Decoded
+
+-- an integer that was bound from an enum
+pub same-integer : (z : ℤ) → mag z < 2 ^ 63 → toZ w64 (ofZ w64 z) ≡ z
+same-integer z h = toZ-ofZ (record { sfits = h })
+
+pub bind-bind : {A B C : Type 0} (c : Checked A) (f : A → Checked B) (g : B → Checked C) → ((c >>= f) >>= g) ≡ (c >>= λ a. f a >>= g)
+bind-bind (refused k) f g = refl
+bind-bind (accepted a) f g = refl
+
+-- where the data end
+pub first-short : (n at : ℕ) (d : List ℕ) → length d - at < n → first n (drop at d) ≡ refused 17
+first-short n at d h = rw (lt-leb n (length (drop at d)) (omega (arith, length-drop at d)))
+
+-- the value of a number of n bytes at the front of s
+abbrev numberAt : Bool → Kind → ℕ → List ℕ → Checked Value
+numberAt o k n s = number o n s >>= λ r. valueBy k n (r .0) (r .1)
+
+decode-number : (o : Bool) (k : Kind) (n : ℕ) (s : List ℕ) → decode o (Field.Number k n) s ≡ (numberAt o k n s >>= λ v. accepted (v, n))
+unfolding decode
+decode-number o k n s = sym (bind-bind (number o n s) (λ r. valueBy k n (r .0) (r .1)) (λ v. accepted (v, n)))
+
+module _ (o : Bool) (n at : ℕ) (d : List ℕ) where
+  pub number-short : (k : Kind) → length d - at < n → Decodes d at (decode o (Field.Number k n) (drop at d)) (Decoded.Refused 17)
+  unfolding decode number
+  number-short k h = record { says = rw (first-short n at d h); inside = tt }
+
+  number-refused : (k : Kind) (j : ℕ) → refused j ≡ numberAt o k n (drop at d) → Decodes d at (decode o (Field.Number k n) (drop at d)) (Decoded.Refused j)
+  number-refused k j e = record { says = rw (decode-number o k n (drop at d), ← e); inside = tt }
+
+  number-read : (k : Kind) (v : Value) (r : Reading) → at + n ≤ length d → accepted v ≡ numberAt o k n (drop at d) → valuesOf d r ≡ v ∷ [] → Inside d r → Decodes d at (decode o (Field.Number k n) (drop at d)) (Decoded.Read r n)
+  number-read k v r h e f i = record { says = rw (decode-number o k n (drop at d), ← e, f); inside = (i, h) }
+
+  pub signed-wide : refused 18 ≡ signedAt o n (drop at d) → Decodes d at (decode o (Field.Number Signed n) (drop at d)) (Decoded.Refused 18)
+  signed-wide e = number-refused Signed 18 e
+
+  pub signed-read : (y z : ℤ) → y ≡ z → at + n ≤ length d → accepted (integer z) ≡ signedAt o n (drop at d) → Decodes d at (decode o (Field.Number Signed n) (drop at d)) (Decoded.Read (Integer y) n)
+  signed-read y z q h e = number-read Signed (integer z) (Integer y) h e (rw q) tt
+
+  unsigned-value : unsignedAt o n (drop at d) >>= (λ w. accepted (integer (signed 8 w))) ≡ numberAt o Unsigned n (drop at d)
+  unsigned-value = bind-bind (number o n (drop at d)) (λ r. unsigned (r .0) (r .1)) (λ w. accepted (integer (signed 8 w)))
+
+  pub unsigned-wide : refused 18 ≡ unsignedAt o n (drop at d) → Decodes d at (decode o (Field.Number Unsigned n) (drop at d)) (Decoded.Refused 18)
+  unsigned-wide e = number-refused Unsigned 18 (ap (λ (c : Checked ℕ). c >>= λ w. accepted (integer (signed 8 w))) e ∙ unsigned-value)
+
+  pub unsigned-read : (y : ℤ) (w : ℕ) → y ≡ signed 8 w → at + n ≤ length d → accepted w ≡ unsignedAt o n (drop at d) → Decodes d at (decode o (Field.Number Unsigned n) (drop at d)) (Decoded.Read (Integer y) n)
+  unsigned-read y w q h e = number-read Unsigned (integer (signed 8 w)) (Integer y) h (ap (λ (c : Checked ℕ). c >>= λ u. accepted (integer (signed 8 u))) e ∙ unsigned-value) (rw q) tt
+
+  pub single-read : (b u : ℕ) → b ≡ fromSingle u → u ≡ total (lowBytes o n (drop at d)) → at + n ≤ length d → Decodes d at (decode o (Field.Number Single n) (drop at d)) (Decoded.Read (Float b) n)
+  single-read b u q e h = number-read Single (float (fromSingle u)) (Float b) h (rw (number-is o n at d h, e)) (rw q) tt
+
+  pub double-read : (b : ℕ) → b ≡ total (lowBytes o n (drop at d)) → at + n ≤ length d → Decodes d at (decode o (Field.Number Double n) (drop at d)) (Decoded.Read (Float b) n)
+  double-read b e h = number-read Double (float b) (Float b) h (rw (number-is o n at d h, e)) refl tt
+
+-- ---- by the kind
+abbrev KindOf : List ℕ → Kind → Type 0
+KindOf tags k = OneOf tags (tagOf the-type k)
+
+-- kinds that are read alike
+abbrev Alike : Kind → Kind → Type 0
+Alike j k = (o : Bool) (n : ℕ) (s : List ℕ) → decode o (Field.Number j n) s ≡ decode o (Field.Number k n) s
+
+-- the tags of b h i l j, and of B H I L J T
+abbrev signeds : List ℕ
+signeds = 0 ∷ 2 ∷ 4 ∷ []
+
+abbrev unsigneds : List ℕ
+unsigneds = 1 ∷ 3 ∷ 5 ∷ 6 ∷ []
+
+pub signed-kind : (k : Kind) → KindOf signeds k → Alike Signed k
+unfolding decode
+signed-kind SmallSigned h = λ o n s. refl
+signed-kind SmallUnsigned h = absurd (miss signeds 1 tt h)
+signed-kind Signed h = λ o n s. refl
+signed-kind Unsigned h = absurd (miss signeds 3 tt h)
+signed-kind LuaInteger h = λ o n s. refl
+signed-kind LuaUnsigned h = absurd (miss signeds 5 tt h)
+signed-kind Size h = absurd (miss signeds 6 tt h)
+signed-kind Single h = absurd (miss signeds 7 tt h)
+signed-kind Double h = absurd (miss signeds 8 tt h)
+
+pub unsigned-kind : (k : Kind) → KindOf unsigneds k → Alike Unsigned k
+unfolding decode
+unsigned-kind SmallSigned h = absurd (miss unsigneds 0 tt h)
+unsigned-kind SmallUnsigned h = λ o n s. refl
+unsigned-kind Signed h = absurd (miss unsigneds 2 tt h)
+unsigned-kind Unsigned h = λ o n s. refl
+unsigned-kind LuaInteger h = absurd (miss unsigneds 4 tt h)
+unsigned-kind LuaUnsigned h = λ o n s. refl
+unsigned-kind Size h = λ o n s. refl
+unsigned-kind Single h = absurd (miss unsigneds 7 tt h)
+unsigned-kind Double h = absurd (miss unsigneds 8 tt h)
+
+module _ (o : Bool) (n at : ℕ) (d : List ℕ) (k j : Kind) (r : Decoded) where
+  -- what one kind reads, another reads that is read alike
+  pub alike : Alike j k → Decodes d at (decode o (Field.Number j n) (drop at d)) r → Decodes d at (decode o (Field.Number k n) (drop at d)) r
+  alike a p = subst (λ (c : Checked (Value × ℕ)). Decodes d at c r) (a o n (drop at d)) p
+
+  -- a kind of the fixed size m
+  pub fixed : (m : ℕ) → k ≡ j → n ≡ m → Decodes d at (decode o (Field.Number j m) (drop at d)) r → Decodes d at (decode o (Field.Number k n) (drop at d)) r
+  fixed m e q p = rw (e, q) p
+
+pub single-size : (k : Kind) (n : ℕ) → T (validSize k n) → k ≡ Single → n ≡ 4
+single-size k n h e = eqb→eq n 4 (subst (λ (x : Kind). T (validSize x n)) e h)
+
+pub double-size : (k : Kind) (n : ℕ) → T (validSize k n) → k ≡ Double → n ≡ 8
+double-size k n h e = eqb→eq n 8 (subst (λ (x : Kind). T (validSize x n)) e h)
+
+-- by what a call answered
+pub as-told : {d : List ℕ} {at : ℕ} {c : Checked (Value × ℕ)} {x y : Decoded} → x ≡ y → Decodes d at c x → Decodes d at c y
+as-told {d} {at} {c} e p = subst (Decodes d at c) e p

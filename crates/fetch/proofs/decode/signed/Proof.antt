@@ -1,0 +1,25 @@
+-- `signed` meets its contract: the integer of the bytes, or 18.
+use mathlib.Core.Path.{sym, ap, _∙_}
+use Rattle.coder.specs.Numbers.{signedOf}
+use Rattle.fetch.proofs.Numbers.{same-integer, signed-read, signed-wide}
+use borrow.Author.Needs.{needs}
+use Rattle.fetch.proofs.decode.signed.Statement.{statement}
+use Rattle.fetch.proofs.decode.signed.Tie as tie
+
+get-signed-requires : tie.Need-get-signed-requires
+get-signed-requires c κs = search needs
+
+enum-known-z : tie.Need-enum-known-z
+enum-known-z c = search needs
+
+enum-told : tie.Need-enum-told
+enum-told c = search needs
+
+returns : tie.Need-returns
+returns c = let s = c .before .before .before .before .before in signed-read (s .args .big) (s .args .size) (s .args .at) (s .args .«data» .now) _ (c .before .z .given .0 .0) (same-integer (c .before .z .given .0 .0) (c .known-told .given .0 .1)) (s .pre) (sym (ap signedOf (c .before .z .given .1)) ∙ c .before .before .before .get-signed .ensures)
+
+returns-2 : tie.Need-returns-2
+returns-2 c = let s = c .before .before .before .before in signed-wide (s .args .big) (s .args .size) (s .args .at) (s .args .«data» .now) (sym (ap signedOf (c .enum-told .given .1)) ∙ c .before .before .get-signed .ensures)
+
+pub signed-spec : {M : Type 1} → statement M
+signed-spec = tie.close (tie.spec get-signed-requires enum-known-z enum-told returns returns-2)

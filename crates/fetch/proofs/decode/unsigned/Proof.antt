@@ -1,0 +1,32 @@
+-- `unsigned` meets its contract: the same 64 bits as an integer, or 18.
+use mathlib.Core.Path.{sym, ap, _∙_}
+use mir.Syntax.{w64}
+use mir.Facts.{toZ-ofZ}
+use borrow.Author.Needs.{needs, sfits-of}
+use Rattle.coder.specs.Numbers.{unsignedOf}
+use Rattle.fetch.proofs.Numbers.{unsigned-read, unsigned-wide}
+use Rattle.fetch.proofs.decode.unsigned.Statement.{statement}
+use Rattle.fetch.proofs.decode.unsigned.Tie as tie
+
+get-unsigned-requires : tie.Need-get-unsigned-requires
+get-unsigned-requires c κs = search needs
+
+enum-known-word : tie.Need-enum-known-word
+enum-known-word c = search needs
+
+to-signed-requires : tie.Need-to-signed-requires
+to-signed-requires c κs = search needs
+
+enum-told : tie.Need-enum-told
+enum-told c = search needs
+
+returns : tie.Need-returns
+returns c = let s = c .before .before .before .before .before .before in unsigned-read (s .args .big) (s .args .size) (s .args .at) (s .args .«data» .now) _ (c .before .before .word .given .0 .0) (toZ-ofZ (sfits-of {w = w64} (c .to-signed .ok)) ∙ c .to-signed .ensures) (s .pre) (sym (ap unsignedOf (c .before .before .word .given .1)) ∙ c .before .before .before .before .get-unsigned .ensures)
+
+returns-2 : tie.Need-returns-2
+returns-2 c = let s = c .before .before .before .before in unsigned-wide (s .args .big) (s .args .size) (s .args .at) (s .args .«data» .now) (sym (ap unsignedOf (c .enum-told .given .1)) ∙ c .before .before .get-unsigned .ensures)
+
+pub unsigned-spec : {M : Type 1} → statement M
+unsigned-spec =
+    tie.close
+    (tie.spec get-unsigned-requires enum-known-word to-signed-requires enum-told returns returns-2)

@@ -1,0 +1,49 @@
+-- `zero_from` meets its contract. The invariant: no zero stands from `at` on and before i. The measure is what is left of the data.
+use Prim.Native.Nat.{_-_}
+use native.Mathlib.Omega.{arith}
+use borrow.Author.Needs.{needs}
+use lib.ListN.{length}
+use Rattle.fetch.proofs.Texts.{NoZero, no-zero-yet, no-zero-more, zero-here, zero-nowhere}
+use Rattle.fetch.proofs.decode.zero_from.Statement.{statement}
+use Rattle.fetch.proofs.decode.zero_from.Tie as tie
+
+abbrev Inv-loop : tie.InvT-loop
+Inv-loop «data» at i₀ i = NoZero «data» at i
+
+abbrev μ-loop : tie.MeasureT-loop
+μ-loop «data» at i₀ i = length «data» - i
+
+loop-holds : tie.Need-loop-holds Inv-loop μ-loop
+loop-holds c = no-zero-yet _ _ (c .pre)
+
+shared-slice-read-if1 : tie.Need-shared-slice-read-if1 Inv-loop μ-loop
+shared-slice-read-if1 c = search needs
+
+returns : tie.Need-returns Inv-loop μ-loop
+returns c = zero-here _ _ _ (c .before .before .before .loop .inv) (search needs) (c .if1 .taken)
+
+add-i : tie.Need-add-i Inv-loop μ-loop
+add-i c = search needs
+
+loop-less : tie.Need-loop-less Inv-loop μ-loop
+loop-less c = omega arith
+
+loop-again : tie.Need-loop-again Inv-loop μ-loop
+loop-again c = no-zero-more _ _ _ (c .before .before .before .loop .inv) (search needs) (c .if1 .left)
+
+returns-2 : tie.Need-returns-2 Inv-loop μ-loop
+returns-2 c = zero-nowhere _ _ _ (c .before .loop .inv) (search needs)
+
+pub zero-from-spec : {M : Type 1} → statement M
+zero-from-spec =
+    tie.close
+    (tie.spec
+    Inv-loop
+    μ-loop
+    loop-holds
+    shared-slice-read-if1
+    returns
+    add-i
+    loop-less
+    loop-again
+    returns-2)

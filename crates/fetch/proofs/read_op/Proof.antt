@@ -1,0 +1,66 @@
+-- `read_op` meets its contract, by what the item does.
+use Rattle.fetch.proofs.Places.{blank-read, set-read, pad-op-refused, pad-op-read, of-op, valid-as, pad-told}
+use borrow.Author.Needs.{needs}
+use Rattle.fetch.proofs.read_op.Statement.{statement}
+use Rattle.fetch.proofs.read_op.Tie as tie
+
+enum-known-op : tie.Need-enum-known-op
+enum-known-op c = search needs
+
+read-field-requires : tie.Need-read-field-requires
+read-field-requires c κs = let s = c .before .before .before .before in (s .pre .0, valid-as (c .before .op .given .1) (s .pre .1))
+
+enum-told : tie.Need-enum-told
+enum-told c = search needs
+
+enum-known-op-2 : tie.Need-enum-known-op-2
+enum-known-op-2 c = search needs
+
+set-requires : tie.Need-set-requires
+set-requires c κs = search needs
+
+enum-known-op-3 : tie.Need-enum-known-op-3
+enum-known-op-3 c = search needs
+
+read-pad-requires : tie.Need-read-pad-requires
+read-pad-requires c κs = search needs
+
+enum-known-number : tie.Need-enum-known-number
+enum-known-number c = search needs
+
+enum-known-t : tie.Need-enum-known-t
+enum-known-t c = search needs
+
+returns : tie.Need-returns
+returns c = of-op _ _ _ _ _ (c .before .before .op .given .1) (c .read-field .ensures)
+
+returns-2 : tie.Need-returns-2
+returns-2 c = of-op _ _ _ _ _ (c .enum-told .given .1) (blank-read _ _ (c .before .before .before .pre .0))
+
+returns-3 : tie.Need-returns-3
+returns-3 c = let s = c .before .before .before .before .before in of-op _ _ _ _ _ (c .before .before .op2 .given .1) (set-read (s .args .«data» .now) (s .args .s) (s .pre .0) (c .before .before .op2 .given .0 .0) _ (valid-as (c .before .before .op2 .given .1) (s .pre .1)) (c .set .ensures))
+
+returns-4 : tie.Need-returns-4
+returns-4 c = let s = c .before .before .before .before .before .before .before .before in of-op _ _ _ _ _ (c .before .before .before .before .before .op3 .given .1) (pad-op-refused (s .args .«data» .now) (s .args .s) (s .pre .0) _ _ _ (pad-told (c .before .number .given .1) (c .before .before .before .read-pad .ensures)))
+
+returns-5 : tie.Need-returns-5
+returns-5 c = let s = c .before .before .before .before .before .before .before .before in of-op _ _ _ _ _ (c .before .before .before .before .before .op3 .given .1) (pad-op-read (s .args .«data» .now) (s .args .s) (s .pre .0) _ _ _ (pad-told (c .before .t .given .1) (c .before .before .before .read-pad .ensures)))
+
+pub read-op-spec : {M : Type 1} → statement M
+read-op-spec =
+    tie.close
+    (tie.spec
+    enum-known-op
+    read-field-requires
+    enum-told
+    enum-known-op-2
+    set-requires
+    enum-known-op-3
+    read-pad-requires
+    enum-known-number
+    enum-known-t
+    returns
+    returns-2
+    returns-3
+    returns-4
+    returns-5)

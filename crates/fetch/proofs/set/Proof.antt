@@ -1,0 +1,22 @@
+-- `set` meets its contract, by the setting.
+use mathlib.Core.Path.{sym, ap}
+use Rattle.definition.specs.States as states
+use Rattle.definition.specs.declared.Setting.{Setting}
+use borrow.Author.Needs.{needs}
+use Rattle.fetch.proofs.set.Statement.{statement}
+use Rattle.fetch.proofs.set.Tie as tie
+
+enum-known-x : tie.Need-enum-known-x
+enum-known-x c = search needs
+
+enum-known-x-2 : tie.Need-enum-known-x-2
+enum-known-x-2 c = search needs
+
+returns : tie.Need-returns
+returns c = ap (λ (x : Setting). states.set x (c .before .before .before .args .s)) (sym (c .before .x .given .1))
+
+returns-2 : tie.Need-returns-2
+returns-2 c = ap (λ (x : Setting). states.set x (c .before .before .before .args .s)) (sym (c .before .x2 .given .1))
+
+pub set-spec : {M : Type 1} → statement M
+set-spec = tie.close (tie.spec enum-known-x enum-known-x-2 returns returns-2)

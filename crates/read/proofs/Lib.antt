@@ -1,0 +1,4 @@
+pub mod Sizes
+pub mod Runs
+pub mod Passing
+pub mod Calls

@@ -1,0 +1,118 @@
+-- `pass` meets its contract. The invariant: the values that were read so far, whose list has the total as its length and, with `put`, stands at the front of the buffer. The measure is what is left of the format.
+use Prim.Native.Nat.{_^_, _-_, _<_}
+use native.Mathlib.Omega.{arith}
+use mathlib.Core.Path.{_≡_, sym, ap, _∙_}
+use mathlib.Core.Logic.{⊎-elim}
+use mathlib.Core.Option.{some}
+use lib.ListN.{length, drop}
+use Rattle.definition.specs.Answers.{accepted}
+use Rattle.definition.specs.declared.Op.{Op}
+use Rattle.format.specs.Steps.{nextAt, nextOf}
+use Rattle.read.proofs.Runs.{valid, ahead}
+use Rattle.read.proofs.Passing.{Passing, passing-none, passing-length, passing-end, passing-refusal, passing-refused, passing-short, passing-room, passing-put, passing-kept, passing-more}
+use Rattle.read.proofs.pass.pass.Statement.{statement}
+use Rattle.read.proofs.pass.pass.Tie as tie
+
+abbrev Inv-loop : tie.InvT-loop
+Inv-loop table format «data» list₀ put c₀ s₀ total₀ list c s total = Passing format «data» s₀ list₀ put (c .at) s list total
+
+abbrev μ-loop : tie.MeasureT-loop
+μ-loop table format «data» list₀ put c₀ s₀ total₀ list c s total = length format - c .at
+
+list-short : (s : tie.Start Inv-loop μ-loop) → length (s .args .list .now) < 2 ^ 63
+list-short s = omega (arith, s .good .1 .1 .1 .1 .0 .1)
+
+-- the item that the cursor read
+item : (c : tie.After-op Inv-loop μ-loop) → nextAt (c .before .before .before .before .before .loop .c .at) (drop (c .before .before .before .before .before .loop .c .at) (c .before .before .before .before .before .before .before .before .before .before .args .format .now)) ≡ accepted (some (c .op .result, c .before .before .i .given .0 .1 .0 .at))
+item c = sym (c .before .before .before .before .next .ensures) ∙ ap nextOf (c .before .before .i .given .1) ∙ ap (λ (o : Op). accepted (some (o, c .before .before .i .given .0 .1 .0 .at))) (sym (c .op .ensures))
+
+new-requires : tie.Need-new-requires Inv-loop μ-loop
+new-requires c κs = tt
+
+loop-holds : tie.Need-loop-holds Inv-loop μ-loop
+loop-holds c = passing-none _ (c .new .ensures) (c .before .before .before .before .pre .1 .0)
+
+next-requires : tie.Need-next-requires Inv-loop μ-loop
+next-requires c κs = c .before .before .before .before .before .pre .0
+
+enum-told : tie.Need-enum-told Inv-loop μ-loop
+enum-told c = c .match .keys1
+
+same-length : tie.Need-same-length Inv-loop μ-loop
+same-length c = passing-length (c .before .before .before .loop .inv) (c .before .before .before .before .before .before .before .before .pre .1 .1)
+
+returns : tie.Need-returns Inv-loop μ-loop
+returns c = passing-end (c .before .before .before .loop .inv) (c .before .before .before .before .before .before .before .before .pre .1 .1) (sym (c .before .before .next .ensures) ∙ ap nextOf (c .enum-told .given .1))
+
+enum-known-k : tie.Need-enum-known-k Inv-loop μ-loop
+enum-known-k c = c .match .keys2
+
+same-length-2 : tie.Need-same-length-2 Inv-loop μ-loop
+same-length-2 c = passing-length (c .before .before .before .before .loop .inv) (c .before .before .before .before .before .before .before .before .before .pre .1 .1)
+
+returns-2 : tie.Need-returns-2 Inv-loop μ-loop
+returns-2 c = passing-refusal (c .before .before .before .before .loop .inv) (c .before .before .before .before .before .before .before .before .before .pre .1 .1) (sym (c .before .before .before .next .ensures) ∙ ap nextOf (c .before .k .given .1))
+
+enum-known-i : tie.Need-enum-known-i Inv-loop μ-loop
+enum-known-i c = c .match .keys3
+
+op-requires : tie.Need-op-requires Inv-loop μ-loop
+op-requires c κs = tt
+
+read-op-requires : tie.Need-read-op-requires Inv-loop μ-loop
+read-op-requires c κs = (c .before .before .before .before .before .loop .inv .so-far .stands, valid (c .before .before .before .before .before .before .before .before .before .before .args .format .now) (c .before .before .before .before .before .loop .c .at) (item c))
+
+enum-known-k-2 : tie.Need-enum-known-k-2 Inv-loop μ-loop
+enum-known-k-2 c = c .match2 .keys1
+
+same-length-3 : tie.Need-same-length-3 Inv-loop μ-loop
+same-length-3 c = passing-length (c .before .before .before .before .before .before .before .before .before .loop .inv) (c .before .before .before .before .before .before .before .before .before .before .before .before .before .before .pre .1 .1)
+
+returns-3 : tie.Need-returns-3 Inv-loop μ-loop
+returns-3 c = passing-refused (c .before .before .before .before .before .before .before .before .before .loop .inv) (c .before .before .before .before .before .before .before .before .before .before .before .before .before .before .pre .1 .1) (item (c .before .before .before .before)) (c .before .before .before .read-op .ensures) (c .before .k2 .given .1)
+
+enum-known-t : tie.Need-enum-known-t Inv-loop μ-loop
+enum-known-t c = c .match2 .keys2
+
+put-reading-requires : tie.Need-put-reading-requires Inv-loop μ-loop
+put-reading-requires c κs = passing-room (c .before .before .before .before .before .before .before .before .before .before .before .loop .inv) (c .before .before .before .before .before .before .before .before .before .before .before .before .before .before .before .before .pre .1 .1) (item (c .before .before .before .before .before .before)) (c .before .before .before .before .before .read-op .ensures) (c .before .before .before .t .given .1) (c .before .if1 .taken) (list-short (c .before .before .before .before .before .before .before .before .before .before .before .before .before .before .before .before))
+
+size-of-requires : tie.Need-size-of-requires Inv-loop μ-loop
+size-of-requires c κs = passing-short (c .before .before .before .before .before .before .before .before .before .before .loop .inv) (c .before .before .before .before .before .before .before .before .before .before .before .before .before .before .before .pre .1 .1) (item (c .before .before .before .before .before)) (c .before .before .before .before .read-op .ensures) (c .before .before .t .given .1)
+
+sum-requires : tie.Need-sum-requires Inv-loop μ-loop
+sum-requires c κs = c .size-of .ensures .1
+
+loop-less : tie.Need-loop-less Inv-loop μ-loop
+loop-less c = let h = ahead (c .before .before .before .before .before .before .before .before .before .before .before .before .before .before .before .before .before .args .format .now) (c .before .before .before .before .before .before .before .before .before .before .before .before .loop .c .at) (item (c .before .before .before .before .before .before .before)) in omega arith
+
+loop-again : tie.Need-loop-again Inv-loop μ-loop
+loop-again c = passing-more (c .before .before .before .before .before .before .before .before .before .before .before .before .loop .inv) (c .before .before .before .before .before .before .before .before .before .before .before .before .before .before .before .before .before .pre .1 .1) (item (c .before .before .before .before .before .before .before)) (c .before .before .before .before .before .before .read-op .ensures) (c .before .before .before .before .t .given .1) (⊎-elim (λ w. passing-put (c .before .before .before .before .before .before .before .before .before .before .before .before .loop .inv) (c .before .before .before .before .before .before .before .before .before .before .before .before .before .before .before .before .before .pre .1 .1) (item (c .before .before .before .before .before .before .before)) (c .before .before .before .before .before .before .read-op .ensures) (c .before .before .before .before .t .given .1) (w .0 .taken) (list-short (c .before .before .before .before .before .before .before .before .before .before .before .before .before .before .before .before .before)) _ (w .5 ∙ w .2 .ensures)) (λ w. w .1 ∙ passing-kept (c .before .before .before .before .before .before .before .before .before .before .before .before .loop .inv) (c .before .before .before .before .before .before .before .before .before .before .before .before .before .before .before .before .before .pre .1 .1) (item (c .before .before .before .before .before .before .before)) (c .before .before .before .before .before .before .read-op .ensures) (c .before .before .before .before .t .given .1) (w .0 .left)) (c .before .before .if1 .came)) (c .before .size-of .ensures .0) (c .sum .ensures)
+
+pub pass-spec : {M : Type 1} → statement M
+pass-spec =
+    tie.close
+    (tie.spec
+    Inv-loop
+    μ-loop
+    new-requires
+    loop-holds
+    next-requires
+    enum-told
+    same-length
+    returns
+    enum-known-k
+    same-length-2
+    returns-2
+    enum-known-i
+    op-requires
+    read-op-requires
+    enum-known-k-2
+    same-length-3
+    returns-3
+    enum-known-t
+    put-reading-requires
+    size-of-requires
+    sum-requires
+    loop-less
+    loop-again)

@@ -1,0 +1,105 @@
+// A pass over a format: every check, the length of the value list, and where it is asked for, the list.
+use definition::Offset;
+use definition::State;
+use fetch::Fetched;
+use fetch::decode::Reading;
+use fetch::read_op;
+use format::cursor::Cursor;
+use format::cursor::Next;
+use values::put_float;
+use values::put_integer;
+use values::put_text;
+ghost use mathlib.Core.Path.{_≡_};
+ghost use mathlib.Core.Bool.{true, cond};
+ghost use Prim.Native.Nat.{ℕ, _+_, _≤_};
+ghost use lib.ListN.{length};
+ghost use lib.Seq.{paste};
+ghost use Rattle.definition.specs.Lists.{listOf};
+ghost use Rattle.fetch.specs.Readings.{valuesOf, Inside, Stands};
+ghost use Rattle.format.specs.Packed.{packed};
+ghost use Rattle.read.specs.Runs.{sizeOf, Short, SameTo63, Checks, Fits, listAfter};
+
+// The number of a refusal, or the length of the value list and the offset after the last byte read. A length above 2^63-1
+// says only that the list's is above it too.
+pub enum Total {
+    Refused(u8),
+    Of(u64, Offset),
+}
+
+// The length of the field of what is read.
+fn size_of(r: Reading) -> u64
+    requires { ⌜ Short r ⌝ }
+    ensures { λ n. ⌜ (n ≡ sizeOf r) × (n ≤ 65538) ⌝ }
+{
+    match r {
+        Reading::Nothing => 0,
+        Reading::Integer(_) => 11,
+        Reading::Float(_) => 11,
+        Reading::Text(_, n) => 3 + n as u64,
+    }
+}
+
+// A sum that is counted up to 2^63-1. No buffer is longer.
+fn sum(total: u64, n: u64) -> u64
+    requires { ⌜ n ≤ 65538 ⌝ }
+    ensures { λ r. ⌜ ((m : ℕ) → SameTo63 total m → SameTo63 r (m + n)) ⌝ }
+{
+    if total < 0x8000_0000_0000_0000 {
+        total + n
+    } else {
+        total
+    }
+}
+
+// Puts the field of what is read at `at`.
+fn put_reading(list: &mut [u8], at: usize, data: &[u8], r: Reading)
+    requires { ⌜ at + sizeOf r ≤ length (now list) ⌝ ∗ ⌜ Inside (now «data») r ⌝ }
+    ensures { λ _. ⌜ now (list .exit) ≡ paste (now (list .entry)) at (listOf (valuesOf (now («data» .entry)) r)) (sizeOf r) ⌝ }
+{
+    match r {
+        Reading::Nothing => {}
+        Reading::Integer(z) => put_integer(list, at, z),
+        Reading::Float(bits) => put_float(list, at, bits),
+        Reading::Text(start, n) => put_text(list, at, data, start, n),
+    }
+}
+
+// Reads a format from a state, whose length is the offset in the data. With `put`, reading is accepted, and the list has room
+// for the values.
+pub fn pass(
+    table: &[u8; 256],
+    format: &[u8],
+    data: &[u8],
+    start: State,
+    list: &mut [u8],
+    put: bool,
+) -> Total
+    requires { ⌜ now table ≡ packed ⌝ ∗ ⌜ Stands (now «data») start ⌝ ∗ ⌜ (put ≡ true → Fits (now format) (now «data») start (now list)) ⌝ }
+    ensures total { λ r. ⌜ Checks (now (format .entry)) (now («data» .entry)) start r ⌝ }
+    ensures list { λ r. ⌜ now (list .exit) ≡ cond put (listAfter (now (format .entry)) (now («data» .entry)) start (now (list .entry))) (now (list .entry)) ⌝ }
+{
+    let mut c = Cursor::new();
+    let mut s = start;
+    let mut total: u64 = 0;
+    loop {
+        match c.next(table, format) {
+            Next::End => return Total::Of(total, Offset(s.length)),
+            Next::Refused(k) => return Total::Refused(k),
+            Next::Item(i, d) => match read_op(data, s, i.op()) {
+                Fetched::Refused(k) => return Total::Refused(k),
+                Fetched::Read(t, r) => {
+                    if put {
+                        put_reading(list, total as usize, data, r);
+                    }
+                    total = sum(total, size_of(r));
+                    s = State {
+                        big: t.big,
+                        limit: t.limit,
+                        length: t.length,
+                    };
+                    c = d;
+                }
+            },
+        }
+    }
+}
