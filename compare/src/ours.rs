@@ -1,0 +1,141 @@
+//! Our library through its C ABI: the declarations, and a safe function for each.
+//!
+//! Each answers the refusal's number as an error. The answer's places are filled with a mark first;
+//! a refusal that changed one of them is answered as `ANSWER_CHANGED`.
+
+unsafe extern "C" {
+    fn digribbon_packsize(format: *const u8, format_length: usize, answer: *mut u64) -> u64;
+    fn digribbon_list_bound(format: *const u8, format_length: usize, data_length: u64, answer: *mut u64) -> u64;
+    fn digribbon_pack(
+        format: *const u8,
+        format_length: usize,
+        list: *const u8,
+        list_length: usize,
+        record: *mut u8,
+        record_length: usize,
+        answer: *mut u64,
+    ) -> u64;
+    fn digribbon_pack_continued(
+        order: u64,
+        limit: u64,
+        length: u64,
+        format: *const u8,
+        format_length: usize,
+        list: *const u8,
+        list_length: usize,
+        record: *mut u8,
+        record_length: usize,
+        answer: *mut u64,
+    ) -> u64;
+    fn digribbon_unpack(
+        format: *const u8,
+        format_length: usize,
+        data: *const u8,
+        data_length: usize,
+        start: i64,
+        list: *mut u8,
+        list_length: usize,
+        answer: *mut u64,
+    ) -> u64;
+}
+
+/// Instead of a refusal's number: the call refused and changed its answer all the same.
+pub const ANSWER_CHANGED: u64 = u64::MAX;
+
+const MARK: u64 = 0xA5C3_96E1_5A3C_691E;
+
+fn answered<const N: usize>(call: impl FnOnce(*mut u64) -> u64) -> Result<[u64; N], u64> {
+    let mut answer = [MARK; N];
+    match call(answer.as_mut_ptr()) {
+        0 => Ok(answer),
+        _ if answer != [MARK; N] => Err(ANSWER_CHANGED),
+        number => Err(number),
+    }
+}
+
+/// The size of the record of a format.
+pub fn packsize(format: &[u8]) -> Result<u64, u64> {
+    // SAFETY: here and below each slice is lent as its pointer and its length, and an answer has the room its call fills.
+    answered::<1>(|answer| unsafe { digribbon_packsize(format.as_ptr(), format.len(), answer) }).map(|[size]| size)
+}
+
+/// The list bound.
+pub fn list_bound(format: &[u8], data_length: u64) -> Result<u64, u64> {
+    answered::<1>(|answer| unsafe { digribbon_list_bound(format.as_ptr(), format.len(), data_length, answer) })
+        .map(|[bound]| bound)
+}
+
+/// The record's length.
+pub fn pack(format: &[u8], list: &[u8], record: &mut [u8]) -> Result<u64, u64> {
+    answered::<1>(|answer| unsafe {
+        digribbon_pack(
+            format.as_ptr(),
+            format.len(),
+            list.as_ptr(),
+            list.len(),
+            record.as_mut_ptr(),
+            record.len(),
+            answer,
+        )
+    })
+    .map(|[length]| length)
+}
+
+/// The state of continued writing.
+#[derive(Clone, Copy, Debug, PartialEq, Eq)]
+pub struct State {
+    pub big: bool,
+    pub limit: u64,
+    pub length: u64,
+}
+
+/// "The start state is little, limit 1, length 0."
+pub const START: State = State { big: false, limit: 1, length: 0 };
+
+#[derive(Clone, Copy, Debug, PartialEq, Eq)]
+pub struct Continued {
+    pub next: State,
+    pub written: u64,
+    pub used: u64,
+    pub items: u64,
+}
+
+pub fn pack_continued(state: State, format: &[u8], list: &[u8], record: &mut [u8]) -> Result<Continued, u64> {
+    answered::<6>(|answer| unsafe {
+        digribbon_pack_continued(
+            u64::from(state.big),
+            state.limit,
+            state.length,
+            format.as_ptr(),
+            format.len(),
+            list.as_ptr(),
+            list.len(),
+            record.as_mut_ptr(),
+            record.len(),
+            answer,
+        )
+    })
+    .map(|[order, limit, length, written, used, items]| Continued {
+        next: State { big: order != 0, limit, length },
+        written,
+        used,
+        items,
+    })
+}
+
+/// The list's length, and the next position.
+pub fn unpack(format: &[u8], data: &[u8], start: i64, list: &mut [u8]) -> Result<(u64, u64), u64> {
+    answered::<2>(|answer| unsafe {
+        digribbon_unpack(
+            format.as_ptr(),
+            format.len(),
+            data.as_ptr(),
+            data.len(),
+            start,
+            list.as_mut_ptr(),
+            list.len(),
+            answer,
+        )
+    })
+    .map(|[length, position]| (length, position))
+}
