@@ -1,9 +1,11 @@
 -- Alignment and length by their cases.
 use Prim.Native.Nat.{ℕ, _+_, _-_, _%_, _^_, _≤_, _<_, min}
 use native.Mathlib.Nat.{mod-one}
-use mathlib.Core.Path.{_≡_, refl, ap, _∙_}
-use mathlib.Core.Bool.{true, false}
-use borrow.Author.Tests.{le-leb, lt-leb, ne-eqb}
+use native.Mathlib.Omega.{arith}
+use lib.Dec.{leb}
+use mathlib.Core.Path.{_≡_, refl, sym, ap, _∙_}
+use mathlib.Core.Bool.{Bool, true, false}
+use borrow.Author.Tests.{le-leb, lt-leb, leb-true, leb-false, ne-eqb}
 use Rattle.definition.specs.Answers.{refused, accepted}
 use Rattle.definition.specs.Ops.{isPower}
 use Rattle.definition.specs.States.{further, longer, alignment, fill, padding}
@@ -40,3 +42,11 @@ module _ (s : State) (n a : ℕ) (is : a ≡ min n (s .limit)) where
 
 pub power-none : (a : ℕ) → (a ≡ 1 → ⊥) → (a ≡ 2 → ⊥) → (a ≡ 4 → ⊥) → (a ≡ 8 → ⊥) → (a ≡ 16 → ⊥) → isPower a ≡ false
 power-none a h1 h2 h4 h8 h16 = rw (ne-eqb a 1 h1, ne-eqb a 2 h2, ne-eqb a 4 h4, ne-eqb a 8 h8, ne-eqb a 16 h16)
+
+-- a difference is compared in place of a sum
+pub leb-less : (a n m : ℕ) → a ≤ m → leb n (m - a) ≡ leb (a + n) m
+leb-less a n m h = go (leb n (m - a)) refl
+  where
+    go : (t : Bool) → leb n (m - a) ≡ t → t ≡ leb (a + n) m
+    go true e = sym (le-leb (a + n) m (omega (arith, leb-true n (m - a) e)))
+    go false e = sym (lt-leb (a + n) m (omega (arith, leb-false n (m - a) e)))

@@ -1,7 +1,8 @@
 // Alignment and length: the zeros before an item, and the state after it.
 use definition::State;
 ghost use mathlib.Core.Path.{_≡_};
-ghost use Prim.Native.Nat.{_+_, min};
+ghost use Prim.Native.Nat.{_+_, _-_, _^_, _≤_, min};
+ghost use lib.Dec.{leb};
 ghost use mathlib.Core.Bool.{_&&_};
 ghost use Rattle.definition.specs.States as states;
 ghost use Rattle.definition.specs.Ops.{isPower};
@@ -99,4 +100,12 @@ pub fn longer(s: State, n: u64) -> Next
         limit: s.limit,
         length: length + n,
     })
+}
+
+// Whether n bytes more leave the length at most 2^63-1.
+pub fn fits(s: State, n: u64) -> bool
+    requires { ⌜ s .length ≤ 2 ^ 63 - 1 ⌝ }
+    ensures { λ r. ⌜ r ≡ leb (s .length + n) (2 ^ 63 - 1) ⌝ }
+{
+    n <= MAX_LENGTH - s.length
 }

@@ -1,44 +1,50 @@
--- The plan of an item is what writing does: one law for each way through a field's checks.
-use Prim.Native.Nat.{ℕ, _+_, _-_, _%_, _^_, _≤_, _<_, min}
+-- The plan of an item is what writing does: one law for each way through its checks.
+use Prim.Native.Nat.{ℕ, zero, suc, _+_, _-_, _%_, _^_, _≤_, _<_, min}
 use native.Mathlib.Omega.{arith}
+use native.Mathlib.Nat.{zero-add, mod-lt, lt-of-lt-of-le}
 use mathlib.Core.Path.{_≡_, refl, sym, ap, _∙_, subst}
-use mathlib.Core.Bool.{Bool, true, false, _||_}
+use mathlib.Core.Bool.{Bool, true, false, not, _&&_, _||_}
 use mathlib.Core.List.{List, [], _∷_, _++_, map}
-use mathlib.Core.Option.{none, some}
-use lib.Dec.{T, leb, eqb, eqb→eq, leb→le}
-use native.Mathlib.Nat.{add-assoc, mod-lt, lt-of-lt-of-le}
-use lib.ListN.{length, take, drop, replicate, length-append, length-replicate}
+use lib.Dec.{T, leb, eqb, eqb→eq, leb→le, ltb→lt, lit≤}
+use lib.ListN.{length, take, drop}
 use borrow.Author.Tests.{leb-true}
-use Rattle.definition.specs.Answers.{Checked, refused, accepted, _>>=_, _>>_, require}
+use Rattle.definition.specs.Answers.{Checked, refused, accepted, _>>=_, _>>_, require, orElse}
+use Rattle.definition.specs.Bytes.{laid, coded}
+use Rattle.definition.specs.Calls.{atMost63}
 use Rattle.definition.specs.Ops.{isPower}
 use Rattle.definition.specs.Values as definition
+use Rattle.definition.specs.Values.{text, asBytes}
 use Rattle.definition.specs.Lists.{values}
-use Rattle.definition.specs.States.{set, longer, natural, alignment, fill, padding}
-use Rattle.definition.specs.Fields.{encode}
-use Rattle.definition.specs.Writing.{byte, pads, output, nothing, place, early, writePad, writeField, writeOp}
+use Rattle.definition.specs.States.{set, further, longer, natural, alignment, fill, padding}
+use Rattle.definition.specs.Fields.{word, encode}
+use Rattle.definition.specs.Writing.{byte, pads, output, nothing, place, taking, early, writePad, writeField, writeOp}
 use Rattle.definition.specs.declared.State.{State}
 use Rattle.definition.specs.declared.Setting.{Setting}
+use Rattle.definition.specs.declared.Kind.{Kind}
+use Rattle.definition.specs.declared.Kind.the-variants.{SmallSigned, SmallUnsigned, Signed, Unsigned, LuaInteger, LuaUnsigned, Size, Single, Double}
 use Rattle.definition.specs.declared.Field.{Field}
 use Rattle.definition.specs.declared.Field.the-variants as Field
 use Rattle.definition.specs.declared.Op.{Op}
 use Rattle.definition.specs.declared.Op.the-variants as Op
-use Rattle.definition.proofs.Answers.{same, bound, passed, true-not-false}
-use Rattle.definition.specs.Bytes.{laid}
+use Rattle.definition.proofs.Answers.{never, same, bound, passed, true-not-false}
+use Rattle.definition.proofs.Bytes.{length-laid}
+use Rattle.definition.proofs.Calls.{Sound}
 use Rattle.definition.proofs.Fields.{validField}
+use Rattle.definition.proofs.Numbers.{validSize}
 use Rattle.definition.proofs.Ops.{validOp}
-use Rattle.values.specs.Meaning.{meaning, fieldAt, FieldRead}
-use Rattle.values.specs.declared.Field as values
+use Rattle.definition.proofs.Steps.{Roomy, room-longer}
+use Rattle.values.specs.Meaning.{meaning, FieldRead}
+use Rattle.values.specs.declared.Field.the-variants as Found
 use Rattle.values.specs.declared.Value.{Value}
-use Rattle.values.proofs.Fields.{Takes, takes-none, takes-first, takes-well-formed}
-use Rattle.definition.proofs.Bytes.{length-laid, length-part}
-use Rattle.plan.specs.Contents.{contentBytes, contentsIs, sizeOf, Within, Sized, Proper, ShortField, Planned}
-use Rattle.plan.specs.Plans.{Wrote, ItemPlan, PutPlan, EndPlan}
-use Rattle.plan.specs.declared.content.Content.{Content}
-use Rattle.plan.specs.declared.content.Content.the-variants as Content
-use Rattle.plan.specs.declared.content.Contents.{Contents}
-use Rattle.plan.specs.declared.content.Contents.the-variants as Contents
+use Rattle.values.proofs.Fields.{takes-none, takes-first}
+use Rattle.plan.specs.Words.{fillOf, wordBytes, Says}
+use Rattle.plan.specs.Texts.{firstText, TextFound, TextAt, TextRead}
+use Rattle.plan.specs.Plans.{textBytes, wrote, Encoded, Wrote, Padded, ItemPlan, ItemAt, NumberPlan, TextPlan}
 use Rattle.plan.specs.declared.item.Plan.{Plan}
 use Rattle.plan.specs.declared.item.Plan.the-variants as Plan
+use Rattle.plan.specs.declared.text.Text.the-variants as Text
+use Rattle.plan.specs.declared.word.Word.the-variants as Word
+use Rattle.plan.proofs.Texts.{text-length, within-to-16, TextField, no-text}
 
 -- ---- padding is below 16
 
@@ -65,19 +71,50 @@ padding-lt s n p e =
     let a = power-le (b .val) (subst (λ (x : ℕ). isPower x ≡ true) (same (c .1)) (c .0)) in
     subst (λ (x : ℕ). x < 16) (same (b .rest)) (lt-of-lt-of-le (mod-lt (b .val - s .length % b .val) (a .0)) (a .1))
 
+-- ---- a sound state
+module _ (s : State) (h : Sound s) where
+  pub sound-length : s .length ≤ 2 ^ 63 - 1
+  sound-length = go (isPower (s .limit)) (atMost63 (s .length)) refl h
+    where
+      go : (a b : Bool) → atMost63 (s .length) ≡ b → (a && b) ≡ true → s .length ≤ 2 ^ 63 - 1
+      go true true e i = leb-true (s .length) (2 ^ 63 - 1) e
+      go true false e i = absurd (true-not-false (sym i))
+      go false b e i = absurd (true-not-false (sym i))
+
+  sound-limit : 1 ≤ s .limit
+  sound-limit = go (isPower (s .limit)) (atMost63 (s .length)) refl h
+    where
+      go : (a b : Bool) → isPower (s .limit) ≡ a → (a && b) ≡ true → 1 ≤ s .limit
+      go true b e i = power-le (s .limit) e .0
+      go false b e i = absurd (true-not-false (sym i))
+
+  -- what has the natural alignment 1 is not aligned
+  pub unpadded : padding s 1 ≡ accepted 0
+  unfolding alignment padding
+  unpadded =
+      let e : min 1 (s .limit) ≡ 1 = omega (arith, sound-limit) in
+      let m : (1 - s .length % 1) % 1 ≡ 0 = omega arith in
+      rw (e, m)
+
+-- ---- 9
+no-room : (s : State) (n : ℕ) → leb (s .length + n) (2 ^ 63 - 1) ≡ false → longer s n ≡ refused 9
+unfolding longer
+no-room s n e = rw e
+
 -- ---- x and X
 module _ (s : State) (vs : List definition.Value) (n k : ℕ) where
-  pub pad-unaligned : (j : ℕ) → padding s n ≡ refused j → writeOp (place s vs) (Op.Pad n k) ≡ refused j
+  pub pad-unaligned : (j : ℕ) → padding s n ≡ refused j → wrote s vs (Op.Pad n k) ≡ refused j
   unfolding writeOp
   pad-unaligned j e = rw e
 
-  pub pad-long : (p j : ℕ) → padding s n ≡ accepted p → longer s (p + k) ≡ refused j → writeOp (place s vs) (Op.Pad n k) ≡ refused j
-  unfolding writeOp
-  pad-long p j e f = rw (e, f)
+  module _ (p : ℕ) (e : padding s n ≡ accepted p) where
+    pub pad-long : leb (s .length + (p + k)) (2 ^ 63 - 1) ≡ false → wrote s vs (Op.Pad n k) ≡ refused 9
+    unfolding writeOp
+    pad-long h = rw (e, no-room s (p + k) h)
 
-  pub pad-zeros : (p : ℕ) (t : State) → padding s n ≡ accepted p → longer s (p + k) ≡ accepted t → writeOp (place s vs) (Op.Pad n k) ≡ accepted (place t vs, output (pads (p + k)) [] 1)
-  unfolding writeOp
-  pad-zeros p t e f = rw (e, f)
+    pub pad-zeros : leb (s .length + (p + k)) (2 ^ 63 - 1) ≡ true → Padded s vs (Op.Pad n k) (p + k)
+    unfolding writeOp
+    pad-zeros h = record { is = rw (e, room-longer s (p + k) h); room = leb-true (s .length + (p + k)) (2 ^ 63 - 1) h }
 
 -- ---- fields
 module _ (s : State) (f : Field) where
@@ -108,91 +145,153 @@ module _ (s : State) (f : Field) where
         unfolding writeOp writeField
         field-put bs t h w = rw (e, g, h, w)
 
--- the size of a content is the number of its bytes
-pub content-length : (o : Bool) (l : List ℕ) (c : Content) → Within l c → length (contentBytes o l c) ≡ sizeOf c
-content-length o l (Content.Number n w) h = length-laid o n _ _
-content-length o l (Content.Text n start len zeros) h =
-    let t : List ℕ = take len (drop start l) in
-    let z : List ℕ = replicate zeros 0 in
-    length-append (laid o n len 0) (t ++ z) ∙ ap (λ (x : ℕ). x + length (t ++ z)) (length-laid o n len 0)
-    ∙ ap (λ (x : ℕ). n + x) (length-append t z ∙ ap (λ (x : ℕ). x + length z) (length-part len start l h) ∙ ap (λ (x : ℕ). len + x) (length-replicate zeros 0))
-    ∙ sym (add-assoc n len zeros)
+-- ---- a field that passed all checks but 9
+module _ (l : List ℕ) (s : State) (vs : List definition.Value) (f : Field) (p : ℕ) (bytes : List ℕ) (next size : ℕ) (x : Encoded l s vs f p bytes next) (long : p + length bytes ≡ size) where
+  pub encoded-long : leb (s .length + size) (2 ^ 63 - 1) ≡ false → wrote s vs (Op.Put f) ≡ refused 9
+  encoded-long h =
+      ap (λ (ws : List definition.Value). wrote s ws (Op.Put f)) (x .first)
+      ∙ field-long s f p (x .padded) (x .state) (x .early-is) (x .val) (x .rest) bytes 9 (x .encoded) (ap (longer s) long ∙ no-room s size h)
 
--- c that passed its early check is short
-pub early-short : (s u : State) (f : Field) → early s f ≡ accepted u → ShortField f
-unfolding longer
-early-short s u (Field.Number k n) e = tt
-early-short s u (Field.Chars n) e = let p = passed (leb (s .length + n) (2 ^ 63 - 1)) 9 _ e in omega (arith, leb-true (s .length + n) (2 ^ 63 - 1) (p .0))
-early-short s u Field.ZeroEnded e = tt
-early-short s u (Field.Counted n) e = tt
+  pub encoded-put : leb (s .length + size) (2 ^ 63 - 1) ≡ true → Wrote l s vs (Op.Put f) p bytes size next
+  encoded-put h = record {
+    field = f;
+    val = x .val;
+    rest = x .rest;
+    is =
+      ap (λ (ws : List definition.Value). wrote s ws (Op.Put f)) (x .first)
+      ∙ field-put s f p (x .padded) (x .state) (x .early-is) (x .val) (x .rest) bytes (further s size) (x .encoded) (ap (longer s) long ∙ room-longer s size h);
+    long = long;
+    room = leb-true (s .length + size) (2 ^ 63 - 1) h;
+    list = x .list;
+  }
 
--- ---- the plan of a field that takes a value
-module _ (l : List ℕ) (s : State) (p : ℕ) (f : Field) (v : Value) (next : ℕ) where
-  pub plan-early : (j : ℕ) → early s f ≡ refused j → PutPlan l s p f v next (Plan.Refused j)
-  plan-early j g rest e h = field-early s f p e (meaning l v ∷ rest) j g
+-- ---- numbers
+pub size-small : (k : Kind) (n : ℕ) → T (validSize k n) → n ≤ 16
+size-small SmallSigned n h = omega (arith, leb→le n 8 h)
+size-small SmallUnsigned n h = omega (arith, ltb→lt n 8 h)
+size-small Signed n h = within-to-16 n h
+size-small Unsigned n h = within-to-16 n h
+size-small LuaInteger n h = omega (arith, eqb→eq n 8 h)
+size-small LuaUnsigned n h = omega (arith, eqb→eq n 8 h)
+size-small Size n h = omega (arith, leb→le n 8 h)
+size-small Single n h = omega (arith, eqb→eq n 4 h)
+size-small Double n h = omega (arith, eqb→eq n 8 h)
+
+module _ (s : State) (p : ℕ) (k : Kind) (n : ℕ) (v : Value) (next : ℕ) where
+  pub number-refused : (j : ℕ) → ((l : List ℕ) → Says n (word k n (meaning l v)) (Word.Refused j)) → NumberPlan s p k n v next (Plan.Refused j)
+  unfolding encode
+  number-refused j h l rest e g = field-refused s (Field.Number k n) p e s refl (meaning l v) rest j (sym (h l (s .big)))
+
+  module _ (w : ℕ) (h : (l : List ℕ) → Says n (word k n (meaning l v)) (Word.Bits w)) where
+    number-encoded : (l : List ℕ) (rest : List definition.Value) → padding s n ≡ accepted p → values (drop next l) ≡ accepted rest → Encoded l s (meaning l v ∷ rest) (Field.Number k n) p (laid (s .big) n w (fillOf w)) next
+    unfolding encode
+    number-encoded l rest e g = record { padded = e; state = s; early-is = refl; val = meaning l v; rest = rest; first = refl; encoded = sym (h l (s .big)); list = g }
+
+    number-size : p + length (laid (s .big) n w (fillOf w)) ≡ p + n
+    number-size = ap (λ (m : ℕ). p + m) (length-laid (s .big) n w (fillOf w))
+
+    pub number-long : leb (s .length + (p + n)) (2 ^ 63 - 1) ≡ false → NumberPlan s p k n v next (Plan.Refused 9)
+    number-long r l rest e g = encoded-long l s _ (Field.Number k n) p _ next (p + n) (number-encoded l rest e g) number-size r
+
+    pub number-put : leb (s .length + (p + n)) (2 ^ 63 - 1) ≡ true → NumberPlan s p k n v next (Plan.Number p n w next)
+    number-put r l rest e g = encoded-put l s _ (Field.Number k n) p _ next (p + n) (number-encoded l rest e g) number-size r
+
+-- by what stands in the list
+module _ (l : List ℕ) (at : ℕ) (s : State) (k : Kind) (n : ℕ) where
+  pub number-unaligned : (j : ℕ) → padding s n ≡ refused j → ItemAt l at s (Op.Put (Field.Number k n)) (Plan.Refused j)
+  number-unaligned j e vs known = field-unaligned s (Field.Number k n) vs j e
+
+  module _ (p : ℕ) (e : padding s n ≡ accepted p) where
+    pub number-none : FieldRead l at Found.End → ItemAt l at s (Op.Put (Field.Number k n)) (Plan.Refused 11)
+    number-none h vs known = ap (λ (ws : List definition.Value). wrote s ws (Op.Put (Field.Number k n))) (takes-none l at vs known (h .says)) ∙ field-none s (Field.Number k n) p e s refl
+
+    pub number-found : (v : Value) (next : ℕ) (r : Plan) → FieldRead l at (Found.Found v next) → NumberPlan s p k n v next r → ItemAt l at s (Op.Put (Field.Number k n)) r
+    number-found v next r h q vs known =
+        let t = takes-first l at vs known (meaning l v) next (h .says) in
+        subst (λ (ws : List definition.Value). ItemPlan l s ws (Op.Put (Field.Number k n)) r) (sym (t .is)) (q l (t .others) e (t .left))
+
+-- ---- texts
+module _ (s : State) (n start len zeros next : ℕ) where
+  pub text-long : leb (s .length + (n + len + zeros)) (2 ^ 63 - 1) ≡ false → TextPlan s n start len zeros next (Plan.Refused 9)
+  text-long h l vs f x within = encoded-long l s vs f 0 _ next (n + len + zeros) x (zero-add _ ∙ text-length (s .big) l start len within n zeros) h
+
+  pub text-put : leb (s .length + (n + len + zeros)) (2 ^ 63 - 1) ≡ true → TextPlan s n start len zeros next (Plan.Text n start len zeros next)
+  text-put h l vs f x within = (encoded-put l s vs f 0 _ next (n + len + zeros) x (zero-add _ ∙ text-length (s .big) l start len within n zeros) h, within)
+
+module _ (l : List ℕ) (at : ℕ) (s : State) (f : Field) (sound : Sound s) (is-text : TextField f) where
+  text-padded : padding s (natural f) ≡ accepted 0
+  text-padded = go f is-text
+    where
+      go : (g : Field) → TextField g → padding s (natural g) ≡ accepted 0
+      go (Field.Number k n) t = absurd t
+      go (Field.Chars n) t = unpadded s sound
+      go Field.ZeroEnded t = unpadded s sound
+      go (Field.Counted n) t = unpadded s sound
+
+  pub text-early : (j : ℕ) → early s f ≡ refused j → ItemAt l at s (Op.Put f) (Plan.Refused j)
+  text-early j g vs known = field-early s f 0 text-padded vs j g
 
   module _ (u : State) (g : early s f ≡ accepted u) where
-    pub plan-refused : (j : ℕ) → Planned l f v (Contents.Refused j) → PutPlan l s p f v next (Plan.Refused j)
-    plan-refused j q rest e h = field-refused s f p e u g (meaning l v) rest j (sym (q .says (s .big)))
+    pub text-missing : (j : ℕ) → TextRead l at (Text.Refused j) → ItemAt l at s (Op.Put f) (Plan.Refused j)
+    text-missing j h vs known = go vs (h vs known)
+      where
+        go : (ws : List definition.Value) → firstText ws ≡ refused j → wrote s ws (Op.Put f) ≡ refused j
+        go [] e = let i : 11 ≡ j = cc in field-none s f 0 text-padded u g ∙ ap refused i
+        go (v ∷ ws) e = field-refused s f 0 text-padded u g v ws j (no-text (s .big) f v j is-text e)
 
-    module _ (c : Content) (q : Planned l f v (Contents.Is c)) where
-      content-size : length (contentBytes (s .big) l c) ≡ sizeOf c
-      content-size = content-length (s .big) l c (q .proper .0)
+    module _ (start n next : ℕ) (h : TextAt l at start n next) where
+      pub text-refused : (j : ℕ) → encode (s .big) f (text (take n (drop start l))) ≡ refused j → ItemAt l at s (Op.Put f) (Plan.Refused j)
+      text-refused j e vs known =
+          let t = h .found vs known in
+          ap (λ (ws : List definition.Value). wrote s ws (Op.Put f)) (t .is) ∙ field-refused s f 0 text-padded u g _ (t .rest) j e
 
-      pub plan-long : (j : ℕ) → longer s (p + sizeOf c) ≡ refused j → PutPlan l s p f v next (Plan.Refused j)
-      plan-long j w rest e h = field-long s f p e u g (meaning l v) rest (contentBytes (s .big) l c) j (sym (q .says (s .big))) (ap (λ (n : ℕ). longer s (p + n)) content-size ∙ w)
+      pub text-encoded : (bytes : List ℕ) → encode (s .big) f (text (take n (drop start l))) ≡ accepted bytes → (vs : List definition.Value) → values (drop at l) ≡ accepted vs → Encoded l s vs f 0 bytes next
+      text-encoded bytes e vs known =
+          let t = h .found vs known in
+          record { padded = text-padded; state = u; early-is = g; val = text (take n (drop start l)); rest = t .rest; first = t .is; encoded = e; list = t .list }
 
-      pub plan-put : (t : State) → longer s (p + sizeOf c) ≡ accepted t → PutPlan l s p f v next (Plan.Put p c t next)
-      plan-put t w rest e h = record {
-        field = f;
-        val = meaning l v;
-        rest = rest;
-        is = field-put s f p e u g (meaning l v) rest (contentBytes (s .big) l c) t (sym (q .says (s .big))) (ap (λ (n : ℕ). longer s (p + n)) content-size ∙ w);
-        list = h;
-        within = q .proper .0;
-        sized = q .proper .1;
-      }
+      pub text-planned : (m zeros : ℕ) (r : Plan) → encode (s .big) f (text (take n (drop start l))) ≡ accepted (textBytes (s .big) l m start n zeros) → TextPlan s m start n zeros next r → ItemAt l at s (Op.Put f) r
+      text-planned m zeros r e q vs known = q l vs f (text-encoded (textBytes (s .big) l m start n zeros) e vs known) (h .within)
 
--- ---- the plan of an item, by what stands in the list
-module _ (l : List ℕ) (at : ℕ) (s : State) (vs : List definition.Value) (known : values (drop at l) ≡ accepted vs) (f : Field) (p : ℕ) (e : padding s (natural f) ≡ accepted p) where
-  pub found-plan : (v : Value) (next : ℕ) (r : Plan) → some (accepted (meaning l v, next)) ≡ fieldAt l at → PutPlan l s p f v next r → ItemPlan l s vs (Op.Put f) r
-  found-plan v next r i h =
-      let t = takes-first l at vs known (meaning l v) next i in
-      subst (λ (x : List definition.Value). ItemPlan l s x (Op.Put f) r) (sym (t .is)) (h (t .others) e (t .left))
+-- c checks 9 early
+pub chars-early : (s : State) (n : ℕ) → leb (s .length + n) (2 ^ 63 - 1) ≡ false → early s (Field.Chars n) ≡ refused 9
+chars-early s n e = no-room s n e
 
-  pub end-plan : (r : Plan) → none ≡ fieldAt l at → EndPlan s f r → ItemPlan l s vs (Op.Put f) r
-  end-plan r i h = subst (λ (x : List definition.Value). ItemPlan l s x (Op.Put f) r) (sym (takes-none l at vs known i)) (h l p e)
+pub chars-room : (s : State) (n : ℕ) → leb (s .length + n) (2 ^ 63 - 1) ≡ true → early s (Field.Chars n) ≡ accepted (further s n)
+chars-room s n e = room-longer s n e
 
-  pub malformed-plan : (r : Plan) → some (refused 21) ≡ fieldAt l at → ItemPlan l s vs (Op.Put f) r
-  malformed-plan r i = absurd (takes-well-formed l at vs known 21 i)
+pub chars-put : (s : State) (m start n next : ℕ) → n ≤ m → leb (s .length + m) (2 ^ 63 - 1) ≡ true → TextPlan s 0 start n (m - n) next (Plan.Text 0 start n (m - n) next)
+chars-put s m start n next h r = let e : 0 + n + (m - n) ≡ m = omega arith in text-put s 0 start n (m - n) next (ap (λ (k : ℕ). leb (s .length + k) (2 ^ 63 - 1)) e ∙ r)
 
-pub of-op : (l : List ℕ) (s : State) (vs : List definition.Value) (o q : Op) (r : Plan) → ItemPlan l s vs q r → o ≡ q → ItemPlan l s vs o r
-of-op l s vs o q r h e = subst (λ (x : Op). ItemPlan l s vs x r) (sym e) h
+-- ---- an item, by what it is
+pub of-op : (l : List ℕ) (at : ℕ) (s : State) (o q : Op) (r : Plan) → ItemAt l at s q r → o ≡ q → ItemAt l at s o r
+of-op l at s o q r h e = subst (λ (x : Op). ItemAt l at s x r) (sym e) h
 
 pub op-as : (o q : Op) → T (validOp o) → o ≡ q → T (validOp q)
 op-as o q h e = subst (λ (x : Op). T (validOp x)) e h
 
+pub field-as : (f g : Field) → T (validField f) → f ≡ g → T (validField g)
+field-as f g h e = subst (λ (x : Field). T (validField x)) e h
+
+pub of-field : (l : List ℕ) (at : ℕ) (s : State) (f g : Field) (r : Plan) → ItemAt l at s (Op.Put g) r → f ≡ g → ItemAt l at s (Op.Put f) r
+of-field l at s f g r h e = subst (λ (x : Field). ItemAt l at s (Op.Put x) r) (sym e) h
+
 pub pad-small : (o : Op) (n k : ℕ) → T (validOp o) → o ≡ Op.Pad n k → k ≤ 1
 pad-small o n k h e = leb→le k 1 (op-as o (Op.Pad n k) h e)
 
-pub skips : (s : State) (vs : List definition.Value) → writeOp (place s vs) Op.Blank ≡ accepted (place s vs, nothing)
+pub skips : (l : List ℕ) (at : ℕ) (s : State) → ItemAt l at s Op.Blank Plan.Skip
 unfolding writeOp
-skips s vs = refl
+skips l at s vs known = refl
 
-pub sets-state : (s t : State) (vs : List definition.Value) (x : Setting) → t ≡ set x s → writeOp (place s vs) (Op.Set x) ≡ accepted (place t vs, output [] [] 1)
+pub sets-state : (l : List ℕ) (at : ℕ) (s : State) (x : Setting) → ItemAt l at s (Op.Set x) (Plan.Set x)
 unfolding writeOp
-sets-state s t vs x e = ap (λ (u : State). accepted (place u vs, output [] [] 1)) (sym e)
+sets-state l at s x vs known = refl
 
--- ---- what a call told
-pub told : {l : List ℕ} {f : Field} {v : Value} {r q : Contents} → Planned l f v r → r ≡ q → Planned l f v q
-told {l} {f} {v} p e = subst (Planned l f v) e p
+-- ---- a test that was negated
+pub was-true : (b : Bool) → not b ≡ false → b ≡ true
+was-true true e = refl
+was-true false e = absurd (true-not-false e)
 
-pub told-sized : {l : List ℕ} {f : Field} {v : Value} {r : Contents} {c : Content} → Planned l f v r → r ≡ Contents.Is c → Sized c
-told-sized p e = told p e .proper .1
-
-pub size-lt : (c : Content) → Sized c → sizeOf c + 16 < 2 ^ 64
-size-lt (Content.Number n w) h = omega arith
-size-lt (Content.Text n start len zeros) h = omega arith
-
-pub field-told : (l : List ℕ) (at : ℕ) (r q : values.Field) → FieldRead l at r → r ≡ q → FieldRead l at q
-field-told l at r q h e = subst (FieldRead l at) e h
+pub was-false : (b : Bool) → not b ≡ true → b ≡ false
+was-false true e = absurd (true-not-false (sym e))
+was-false false e = refl

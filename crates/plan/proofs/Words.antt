@@ -6,7 +6,7 @@ use lib.Pow.{pow-lt}
 use mathlib.Core.Path.{_≡_, refl, sym, ap, _∙_, subst}
 use mathlib.Core.Bool.{Bool, true, false, cond}
 use mathlib.Core.Option.{Option, none, some}
-use lib.Dec.{T, ltb, eqb→eq}
+use lib.Dec.{T, ltb, leb→le, eqb→eq}
 use lib.IntN.{ℤ, pos, negsuc}
 use lib.Signed.{ltZ, mag}
 use lib.Ieee.{binary64, ofBits}
@@ -15,7 +15,7 @@ use mir.Val.{toZ, ofZ, SFits}
 use mir.Facts.{toZ-ofZ}
 use borrow.Author.Tests.{lt-ltb, le-ltb, ltb-true, ltb-false}
 use Rattle.definition.specs.Answers.{Checked, refused, accepted, _>>=_, _>>_, require, orElse}
-use Rattle.definition.specs.Bytes.{bits, extent}
+use Rattle.definition.specs.Bytes.{bits, sign, extent, laid, coded}
 use Rattle.definition.specs.Values.{Value, integer, float, text, other, asInteger, asNumber, wrapped}
 use Rattle.definition.specs.Fields.{inSigned, inUnsigned, floatBy, integerOr, word}
 use Rattle.definition.specs.declared.Kind.{Kind}
@@ -26,16 +26,39 @@ use Rattle.definition.proofs.Numbers.{validSize, within-from-1}
 use Rattle.coder.proofs.Placing.{bits-of-bytes}
 use Rattle.single.specs.Single.{toSingle}
 use Rattle.numbers.specs.Meaning.{wrappedFloat}
-use Rattle.plan.specs.Words.{integerIs, patternOr}
+use Rattle.plan.specs.Words.{fillOf, Says, patternOr}
 use Rattle.plan.specs.declared.word.Word.{Word}
+use Rattle.plan.specs.declared.word.Word.the-variants.{Refused, Bits}
 
--- ---- the word of an integer
-pub integer-is : (z : ℤ) (b : ℕ) (t : Bool) → SFits w64 z → b ≡ bits z → ltZ (toZ w64 (ofZ w64 z)) (pos 0) ≡ t → integerIs (record { bits = b; negative = t }) ≡ z
-integer-is z b true f e h =
-    let i = negative z f h in
-    let n : 2 ^ 64 - 1 - b ≡ extent z = omega (arith, e ∙ ap bits i, extent-fits z f) in
-    ap negsuc n ∙ sym i
-integer-is z b false f e h = let i = positive z f h in ap pos (e ∙ ap bits i) ∙ sym i
+-- ---- an integer that was bound from an enum
+pub fits-of : (z : ℤ) → mag z < 2 ^ 63 → SFits w64 z
+fits-of z h = record { sfits = h }
+
+pub same-integer : (z : ℤ) → mag z < 2 ^ 63 → toZ w64 (ofZ w64 z) ≡ z
+same-integer z h = toZ-ofZ (fits-of z h)
+
+-- ---- the word of an integer, of a pattern, and of a refusal
+
+fill-sign : (z : ℤ) → SFits w64 z → fillOf (bits z) ≡ sign z
+fill-sign (pos n) f = ap (λ (t : Bool). cond t 0 255) (lt-ltb n (2 ^ 63) (f .sfits))
+fill-sign (negsuc n) f = ap (λ (t : Bool). cond t 0 255) (le-ltb (2 ^ 64 - 1 - n) (2 ^ 63) (omega (arith, f .sfits)))
+
+pub says-integer : (n b : ℕ) (z : ℤ) {x : Checked ℤ} → mag z < 2 ^ 63 → b ≡ bits (toZ w64 (ofZ w64 z)) → x ≡ accepted z → Says n x (Bits b)
+says-integer n b z h e i o = rw i (ap (λ (c : ℕ). accepted (laid o n c (fillOf c))) (e ∙ ap bits (same-integer z h)) ∙ ap (λ (c : ℕ). accepted (laid o n (bits z) c)) (fill-sign z (fits-of z h)))
+
+-- up to eight bytes nothing is filled
+no-fill : (o : Bool) (n v b c : ℕ) → n ≤ 8 → laid o n v b ≡ laid o n v c
+unfolding laid
+no-fill o n v b c h = let e : n - 8 ≡ 0 = omega arith in rw e
+
+pub says-pattern : (n b : ℕ) {x : Checked ℤ} → n ≤ 8 → x ≡ accepted (pos b) → Says n x (Bits b)
+says-pattern n b h i o = rw i (ap accepted (no-fill o n b (fillOf b) 0 h))
+
+pub says-refused : (n k : ℕ) {x : Checked ℤ} → x ≡ refused k → Says n x (Refused k)
+says-refused n k i o = rw i
+
+pub says-as : (n : ℕ) (r : Word) {x y : Checked ℤ} → Says n x r → y ≡ x → Says n y r
+says-as n r h i = subst (λ (z : Checked ℤ). Says n z r) (sym i) h
 
 -- ---- ranges
 
@@ -175,13 +198,6 @@ double-word w n = go (asNumber w)
     go none = refl
     go (some b) = refl
 
--- ---- an integer that was bound from an enum
-pub fits-of : (z : ℤ) → mag z < 2 ^ 63 → SFits w64 z
-fits-of z h = record { sfits = h }
-
-pub same-integer : (z : ℤ) → mag z < 2 ^ 63 → toZ w64 (ofZ w64 z) ≡ z
-same-integer z h = toZ-ofZ (fits-of z h)
-
 -- ---- bits that were bound from an enum
 pub same-bits : (a b : ℕ) → some a ≡ some b → a < 2 ^ 64 → b < 2 ^ 64
 same-bits a b e h = let i : a ≡ b = cc in omega arith
@@ -190,8 +206,8 @@ pub no-bits : {b : ℕ} → some b ≡ none → ⊥
 no-bits e = some-none e
 
 -- ---- by the kind
-pub of-kind : {k j : Kind} (n : ℕ) (w : Value) {c : Checked ℤ} → c ≡ word j n w → k ≡ j → c ≡ word k n w
-of-kind n w e i = e ∙ ap (λ (x : Kind). word x n w) (sym i)
+pub of-kind : {k j : Kind} (n : ℕ) (w : Value) (r : Word) → Says n (word j n w) r → k ≡ j → Says n (word k n w) r
+of-kind n w r h i = says-as n r h (ap (λ (x : Kind). word x n w) i)
 
 -- B and H are b and h but for what is read
 pub same-small : (n : ℕ) (w : Value) → word SmallSigned n w ≡ word SmallUnsigned n w
@@ -204,5 +220,31 @@ signed-from-1 k n h e = within-from-1 n (subst (λ (x : Kind). T (validSize x n)
 pub lua-size : (k : Kind) (n : ℕ) → T (validSize k n) → k ≡ LuaUnsigned → n ≡ 8
 lua-size k n h e = eqb→eq n 8 (subst (λ (x : Kind). T (validSize x n)) e h)
 
-pub of-size : (k : Kind) (m n : ℕ) (w : Value) {c : Checked ℤ} → c ≡ word k m w → n ≡ m → c ≡ word k n w
-of-size k m n w e i = e ∙ ap (λ (x : ℕ). word k x w) (sym i)
+pub of-size : (k : Kind) (m n : ℕ) (w : Value) (r : Word) → Says m (word k m w) r → n ≡ m → Says n (word k n w) r
+of-size k m n w r h i = subst (λ (x : ℕ). Says x (word k x w) r) (sym i) h
+
+-- patterns have at most eight bytes
+abbrev isPattern : Kind → Bool
+isPattern SmallSigned = false
+isPattern SmallUnsigned = false
+isPattern Signed = false
+isPattern Unsigned = false
+isPattern LuaInteger = true
+isPattern LuaUnsigned = true
+isPattern Size = true
+isPattern Single = true
+isPattern Double = true
+
+pub pattern-size : (k j : Kind) (n : ℕ) → T (validSize k n) → k ≡ j → T (isPattern j) → n ≤ 8
+pattern-size k j n h e p = go j (subst (λ (x : Kind). T (validSize x n)) e h) p
+  where
+    go : (j : Kind) → T (validSize j n) → T (isPattern j) → n ≤ 8
+    go SmallSigned h p = absurd p
+    go SmallUnsigned h p = absurd p
+    go Signed h p = absurd p
+    go Unsigned h p = absurd p
+    go LuaInteger h p = omega (arith, eqb→eq n 8 h)
+    go LuaUnsigned h p = omega (arith, eqb→eq n 8 h)
+    go Size h p = leb→le n 8 h
+    go Single h p = omega (arith, eqb→eq n 4 h)
+    go Double h p = omega (arith, eqb→eq n 8 h)

@@ -1,49 +1,78 @@
 -- What a plan says of an item: what writing does at a state, with the values of the list from a field on.
-use Prim.Native.Nat.{ℕ}
+use Prim.Native.Nat.{ℕ, _+_, _-_, _^_, _≤_}
 use mathlib.Core.Path.{_≡_}
+use mathlib.Core.Bool.{Bool}
 use mathlib.Core.List.{List, [], _∷_, _++_, map}
-use lib.ListN.{drop}
+use lib.ListN.{length, take, drop, replicate}
 use Rattle.definition.specs.Answers.{Checked, refused, accepted}
+use Rattle.definition.specs.Bytes.{laid}
+use Rattle.definition.specs.Fields.{encode}
 use Rattle.definition.specs.Values as definition
 use Rattle.definition.specs.Lists.{values}
-use Rattle.definition.specs.States.{natural, padding}
-use Rattle.definition.specs.Writing.{byte, pads, Output, output, nothing, Place, place, writeOp}
+use Rattle.definition.specs.States.{set, further, natural, padding}
+use Rattle.definition.specs.Writing.{byte, pads, Output, output, nothing, Place, place, early, writeOp}
 use Rattle.definition.specs.declared.State.{State}
+use Rattle.definition.specs.declared.Kind.{Kind}
 use Rattle.definition.specs.declared.Field.{Field}
+use Rattle.definition.specs.declared.Field.the-variants as Field
 use Rattle.definition.specs.declared.Op.{Op}
 use Rattle.definition.specs.declared.Op.the-variants as Op
 use Rattle.values.specs.Meaning.{meaning}
 use Rattle.values.specs.declared.Value.{Value}
-use Rattle.plan.specs.Contents.{contentBytes, Within, Sized}
-use Rattle.plan.specs.declared.content.Content.{Content}
+use Rattle.plan.specs.Words.{fillOf}
 use Rattle.plan.specs.declared.item.Plan.{Plan}
-use Rattle.plan.specs.declared.item.Plan.the-variants.{Refused, Skip, Set, Zeros, Put}
+use Rattle.plan.specs.declared.item.Plan.the-variants.{Refused, Skip, Set, Zeros, Number, Text}
+
+-- the bytes of a text: its length in n bytes, the text, zeros
+abbrev pub textBytes : Bool → List ℕ → ℕ → ℕ → ℕ → ℕ → List ℕ
+textBytes o l n start len zeros = laid o n len 0 ++ (take len (drop start l) ++ replicate zeros 0)
 
 -- what the item op gives, written at the state s with the values vs
 abbrev pub wrote : State → List definition.Value → Op → Checked (Place definition.Value × Output)
 wrote s vs op = writeOp (place s vs) op
 
--- a field that was put: p zeros and the content c, to the state t and the list's field at `next`
-pub record Wrote (l : List ℕ) (s : State) (vs : List definition.Value) (op : Op) (p : ℕ) (c : Content) (t : State) (next : ℕ) : Type 0 where
+-- a field with the values vs before check 9: p zeros, its value's bytes, and the list's next field
+pub record Encoded (l : List ℕ) (s : State) (vs : List definition.Value) (f : Field) (p : ℕ) (bytes : List ℕ) (next : ℕ) : Type 0 where
+  pub padded : padding s (natural f) ≡ accepted p
+  pub state : State
+  pub early-is : early s f ≡ accepted state
+  pub val : definition.Value
+  pub rest : List definition.Value
+  pub first : vs ≡ val ∷ rest
+  pub encoded : encode (s .big) f val ≡ accepted bytes
+  pub list : values (drop next l) ≡ accepted rest
+
+-- a field that was put: p zeros and bytes, which are `size` in all, and the list's next field
+pub record Wrote (l : List ℕ) (s : State) (vs : List definition.Value) (op : Op) (p : ℕ) (bytes : List ℕ) (size next : ℕ) : Type 0 where
   pub field : Field
   pub val : definition.Value
   pub rest : List definition.Value
-  pub is : wrote s vs op ≡ accepted (place t rest, output (pads p ++ map byte (contentBytes (s .big) l c)) ((field, val) ∷ []) 1)
+  pub is : wrote s vs op ≡ accepted (place (further s size) rest, output (pads p ++ map byte bytes) ((field, val) ∷ []) 1)
+  pub long : p + length bytes ≡ size
+  pub room : s .length + size ≤ 2 ^ 63 - 1
   pub list : values (drop next l) ≡ accepted rest
-  pub within : Within l c
-  pub sized : Sized c
+
+-- zeros that were put
+pub record Padded (s : State) (vs : List definition.Value) (op : Op) (n : ℕ) : Type 0 where
+  pub is : wrote s vs op ≡ accepted (place (further s n) vs, output (pads n) [] 1)
+  pub room : s .length + n ≤ 2 ^ 63 - 1
 
 abbrev pub ItemPlan : List ℕ → State → List definition.Value → Op → Plan → Type 0
 ItemPlan l s vs op (Refused k) = wrote s vs op ≡ refused k
 ItemPlan l s vs op Skip = wrote s vs op ≡ accepted (place s vs, nothing)
-ItemPlan l s vs op (Set t) = wrote s vs op ≡ accepted (place t vs, output [] [] 1)
-ItemPlan l s vs op (Zeros n t) = wrote s vs op ≡ accepted (place t vs, output (pads n) [] 1)
-ItemPlan l s vs op (Put p c t next) = Wrote l s vs op p c t next
+ItemPlan l s vs op (Set x) = wrote s vs op ≡ accepted (place (set x s) vs, output [] [] 1)
+ItemPlan l s vs op (Zeros n) = Padded s vs op n
+ItemPlan l s vs op (Number p n w next) = Wrote l s vs op p (laid (s .big) n w (fillOf w)) (p + n) next
+ItemPlan l s vs op (Text n start len zeros next) = Wrote l s vs op 0 (textBytes (s .big) l n start len zeros) (n + len + zeros) next × (start + len ≤ length l)
 
--- of a field that takes the value v after p zeros, where the list's next field is at `next`
-abbrev pub PutPlan : List ℕ → State → ℕ → Field → Value → ℕ → Plan → Type 0
-PutPlan l s p f v next r = (rest : List definition.Value) → padding s (natural f) ≡ accepted p → values (drop next l) ≡ accepted rest → ItemPlan l s (meaning l v ∷ rest) (Op.Put f) r
+-- the plan of an item with the values of l from a field on
+abbrev pub ItemAt : List ℕ → ℕ → State → Op → Plan → Type 0
+ItemAt l at s op r = (vs : List definition.Value) → values (drop at l) ≡ accepted vs → ItemPlan l s vs op r
 
--- of a field for which no value is left
-abbrev pub EndPlan : State → Field → Plan → Type 0
-EndPlan s f r = (l : List ℕ) (p : ℕ) → padding s (natural f) ≡ accepted p → ItemPlan l s [] (Op.Put f) r
+-- of a number that takes the value v after p zeros
+abbrev pub NumberPlan : State → ℕ → Kind → ℕ → Value → ℕ → Plan → Type 0
+NumberPlan s p k n v next r = (l : List ℕ) (rest : List definition.Value) → padding s n ≡ accepted p → values (drop next l) ≡ accepted rest → ItemPlan l s (meaning l v ∷ rest) (Op.Put (Field.Number k n)) r
+
+-- of a text that passed all checks but 9
+abbrev pub TextPlan : State → ℕ → ℕ → ℕ → ℕ → ℕ → Plan → Type 0
+TextPlan s n start len zeros next r = (l : List ℕ) (vs : List definition.Value) (f : Field) → Encoded l s vs f 0 (textBytes (s .big) l n start len zeros) next → start + len ≤ length l → ItemPlan l s vs (Op.Put f) r

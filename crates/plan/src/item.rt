@@ -1,152 +1,195 @@
 // What writing does for an item: one plan serves the pass that checks and the pass that puts bytes.
-use crate::content::Content;
-use crate::content::Contents;
-use crate::content::content_of;
-use crate::content::size_of;
+use crate::text::Text;
+use crate::text::has_zero;
+use crate::text::text_at;
+use crate::word::Word;
+use crate::word::word_of;
 use align::Amount;
-use align::Next;
-use align::longer;
+use align::fits;
 use align::padding;
 use definition::Field;
+use definition::Kind;
 use definition::Op;
 use definition::Setting;
 use definition::State;
 use values::Value;
 use values::field_at;
 ghost use mathlib.Core.Path.{_≡_};
+ghost use mathlib.Core.Bool.{true};
 ghost use mathlib.Core.List.{List};
-ghost use Prim.Native.Nat.{ℕ, _<_, _≤_};
-ghost use lib.Dec.{T};
+ghost use Prim.Native.Nat.{ℕ, _^_, _<_, _≤_};
+ghost use lib.Dec.{T, ltb};
 ghost use lib.ListN.{drop};
-ghost use Rattle.definition.specs.Answers.{accepted};
-ghost use Rattle.definition.specs.States as states;
-ghost use Rattle.definition.specs.Writing as writing;
-ghost use Rattle.definition.specs.Values as definition;
 ghost use Rattle.definition.specs.Lists.{values};
+ghost use Rattle.definition.specs.Values as definition;
+ghost use Rattle.definition.specs.declared.Field.the-variants as fields;
 ghost use Rattle.definition.specs.declared.Op.the-variants as ops;
+ghost use Rattle.definition.proofs.Calls.{Sound};
 ghost use Rattle.definition.proofs.Fields.{validField};
+ghost use Rattle.definition.proofs.Numbers.{validSize};
 ghost use Rattle.definition.proofs.Ops.{validOp};
-ghost use Rattle.align.specs.Amounts.{stateOf};
-ghost use Rattle.values.specs.Meaning.{meaning, Proper, Inside};
-ghost use Rattle.plan.specs.Plans.{PutPlan, EndPlan, ItemPlan};
+ghost use Rattle.values.specs.Meaning.{isAccepted, Proper};
+ghost use Rattle.plan.specs.Plans.{ItemPlan, ItemAt, NumberPlan, TextPlan};
 
 // What an item does.
 pub enum Plan {
     Refused(u8),
     // A blank: nothing.
     Skip,
-    // A setting: the next state.
-    Set(State),
-    // So many zeros, and the next state.
-    Zeros(u64, State),
-    // So many zeros and a content, the next state, and where the list's next field starts.
-    Put(u64, Content, State, usize),
+    // A change of the state.
+    Set(Setting),
+    // So many zeros.
+    Zeros(u64),
+    // A number: the zeros before it, its size, its word, and where the list's next field starts.
+    Number(u64, u64, u64, usize),
+    // A text of the list: the size of the length before it, where it starts, its length, the zeros after it, and where the
+    // list's next field starts.
+    Text(u64, usize, usize, u64, usize),
 }
 
-fn set(x: Setting, s: State) -> State
-    ensures { λ r. ⌜ r ≡ states.set x s ⌝ }
-{
-    match x {
-        Setting::Order(big) => State {
-            big,
-            limit: s.limit,
-            length: s.length,
-        },
-        Setting::Limit(limit) => State {
-            big: s.big,
-            limit,
-            length: s.length,
-        },
-    }
-}
-
-fn natural(f: Field) -> u64
-    ensures { λ r. ⌜ r ≡ states.natural f ⌝ }
-{
-    match f {
-        Field::Number(_, size) => size,
-        Field::Chars(_) => 1,
-        Field::ZeroEnded => 1,
-        Field::Counted(_) => 1,
-    }
-}
-
-// c checks its length before its value.
-fn early(s: State, f: Field) -> Next
-    ensures { λ r. ⌜ stateOf r ≡ writing.early s f ⌝ }
-{
-    match f {
-        Field::Number(_, _) => Next::State(s),
-        Field::Chars(n) => longer(s, n),
-        Field::ZeroEnded => Next::State(s),
-        Field::Counted(_) => Next::State(s),
-    }
-}
-
-// x and X.
+// x and X: 6, 9.
 fn pad(s: State, natural: u64, zeros: u64) -> Plan
-    requires { ⌜ zeros ≤ 1 ⌝ }
+    requires { ⌜ Sound s ⌝ ∗ ⌜ zeros ≤ 1 ⌝ }
     ensures { λ r. ⌜ ((l : List ℕ) (vs : List definition.Value) → ItemPlan l s vs (ops.Pad natural zeros) r) ⌝ }
 {
     match padding(s, natural) {
         Amount::Refused(k) => Plan::Refused(k),
-        Amount::Bytes(p) => match longer(s, p + zeros) {
-            Next::Refused(k) => Plan::Refused(k),
-            Next::State(t) => Plan::Zeros(p + zeros, t),
-        },
+        Amount::Bytes(p) => {
+            if fits(s, p + zeros) {
+                Plan::Zeros(p + zeros)
+            } else {
+                Plan::Refused(9)
+            }
+        }
     }
 }
 
-// A field that takes the value v, after p zeros.
-fn put(list: &[u8], s: State, p: u64, f: Field, v: Value, next: usize) -> Plan
-    requires { ⌜ Proper v ⌝ ∗ ⌜ Inside (now list) v ⌝ ∗ ⌜ T (validField f) ⌝ ∗ ⌜ p < 16 ⌝ }
-    ensures { λ r. ⌜ PutPlan (now (list .entry)) s p f v next r ⌝ }
+// A number that takes the value v, after p zeros: 12, 13, 9.
+fn put_number(s: State, p: u64, kind: Kind, size: u64, v: Value, next: usize) -> Plan
+    requires { ⌜ Sound s ⌝ ∗ ⌜ p < 16 ⌝ ∗ ⌜ Proper v ⌝ ∗ ⌜ T (validSize kind size) ⌝ }
+    ensures { λ r. ⌜ NumberPlan s p kind size v next r ⌝ }
 {
-    match early(s, f) {
-        Next::Refused(k) => Plan::Refused(k),
-        Next::State(_) => match content_of(list, f, v) {
-            Contents::Refused(k) => Plan::Refused(k),
-            Contents::Is(c) => match longer(s, p + size_of(c)) {
-                Next::Refused(k) => Plan::Refused(k),
-                Next::State(t) => Plan::Put(p, c, t, next),
-            },
-        },
+    match word_of(kind, size, v) {
+        Word::Refused(k) => Plan::Refused(k),
+        Word::Bits(w) => {
+            if fits(s, p + size) {
+                Plan::Number(p, size, w, next)
+            } else {
+                Plan::Refused(9)
+            }
+        }
     }
 }
 
-// A field for which no value is left: 9 of c, then 11.
-fn end(s: State, f: Field) -> Plan
-    ensures { λ r. ⌜ EndPlan s f r ⌝ }
+// A number: 6, 11, 12, 13, 9.
+fn number(list: &[u8], at: usize, s: State, kind: Kind, size: u64) -> Plan
+    requires { ⌜ Sound s ⌝ ∗ ⌜ isAccepted (values (drop at (now list))) ≡ true ⌝ ∗ ⌜ T (validSize kind size) ⌝ }
+    ensures { λ r. ⌜ ItemAt (now (list .entry)) at s (ops.Put (fields.Number kind size)) r ⌝ }
 {
-    match early(s, f) {
-        Next::Refused(k) => Plan::Refused(k),
-        Next::State(_) => Plan::Refused(11),
-    }
-}
-
-// c, z, s and numbers: 6, 9 of c, 11, 12, then 13 or 14 or 15, then 9.
-fn field(list: &[u8], at: usize, s: State, f: Field) -> Plan
-    requires { ⌜ T (validField f) ⌝ }
-    ensures { λ r. ⌜ ((vs : List definition.Value) → values (drop at (now (list .entry))) ≡ accepted vs → ItemPlan (now (list .entry)) s vs (ops.Put f) r) ⌝ }
-{
-    match padding(s, natural(f)) {
+    match padding(s, size) {
         Amount::Refused(k) => Plan::Refused(k),
         Amount::Bytes(p) => match field_at(list, at) {
-            values::Field::Found(v, next) => put(list, s, p, f, v, next),
-            values::Field::End => end(s, f),
-            values::Field::Malformed => Plan::Refused(21),
+            values::Field::Found(v, next) => put_number(s, p, kind, size, v, next),
+            values::Field::End => Plan::Refused(11),
         },
     }
 }
 
-// The plan of a checked item, from a state and the list's field at `at`.
+// A text that passed all checks but 9.
+fn put_text(s: State, size: u64, start: usize, n: usize, zeros: u64, next: usize) -> Plan
+    requires { ⌜ Sound s ⌝ ∗ ⌜ size ≤ 16 ⌝ ∗ ⌜ n ≤ 65535 ⌝ ∗ ⌜ zeros ≤ 1 ⌝ }
+    ensures { λ r. ⌜ TextPlan s size start n zeros next r ⌝ }
+{
+    if fits(s, size + n as u64 + zeros) {
+        Plan::Text(size, start, n, zeros, next)
+    } else {
+        Plan::Refused(9)
+    }
+}
+
+// c: 9, 11, 12, 15.
+fn chars(list: &[u8], at: usize, s: State, n: u64) -> Plan
+    requires { ⌜ Sound s ⌝ ∗ ⌜ isAccepted (values (drop at (now list))) ≡ true ⌝ }
+    ensures { λ r. ⌜ ItemAt (now (list .entry)) at s (ops.Put (fields.Chars n)) r ⌝ }
+{
+    if !fits(s, n) {
+        return Plan::Refused(9);
+    }
+    match text_at(list, at) {
+        Text::Refused(k) => Plan::Refused(k),
+        Text::At(start, length, next) => {
+            if n < length as u64 {
+                return Plan::Refused(15);
+            }
+            Plan::Text(0, start, length, n - length as u64, next)
+        }
+    }
+}
+
+// z: 11, 12, 14, 9.
+fn zero_ended(list: &[u8], at: usize, s: State) -> Plan
+    requires { ⌜ Sound s ⌝ ∗ ⌜ isAccepted (values (drop at (now list))) ≡ true ⌝ }
+    ensures { λ r. ⌜ ItemAt (now (list .entry)) at s (ops.Put fields.ZeroEnded) r ⌝ }
+{
+    match text_at(list, at) {
+        Text::Refused(k) => Plan::Refused(k),
+        Text::At(start, n, next) => {
+            if has_zero(list, start, n) {
+                return Plan::Refused(14);
+            }
+            put_text(s, 0, start, n, 1, next)
+        }
+    }
+}
+
+// Whether a length in so many bytes can be n.
+fn countable(size: u64, n: usize) -> bool
+    requires { ⌜ T (validField (fields.Counted size)) ⌝ ∗ ⌜ n ≤ 65535 ⌝ }
+    ensures { λ r. ⌜ r ≡ ltb n (256 ^ size) ⌝ }
+{
+    if size == 1 {
+        return n <= 255;
+    }
+    true
+}
+
+// s: 11, 12, 15, 9.
+fn counted(list: &[u8], at: usize, s: State, size: u64) -> Plan
+    requires { ⌜ Sound s ⌝ ∗ ⌜ isAccepted (values (drop at (now list))) ≡ true ⌝ ∗ ⌜ T (validField (fields.Counted size)) ⌝ }
+    ensures { λ r. ⌜ ItemAt (now (list .entry)) at s (ops.Put (fields.Counted size)) r ⌝ }
+{
+    match text_at(list, at) {
+        Text::Refused(k) => Plan::Refused(k),
+        Text::At(start, n, next) => {
+            if countable(size, n) {
+                put_text(s, size, start, n, 0, next)
+            } else {
+                Plan::Refused(15)
+            }
+        }
+    }
+}
+
+fn field(list: &[u8], at: usize, s: State, f: Field) -> Plan
+    requires { ⌜ Sound s ⌝ ∗ ⌜ isAccepted (values (drop at (now list))) ≡ true ⌝ ∗ ⌜ T (validField f) ⌝ }
+    ensures { λ r. ⌜ ItemAt (now (list .entry)) at s (ops.Put f) r ⌝ }
+{
+    match f {
+        Field::Number(kind, size) => number(list, at, s, kind, size),
+        Field::Chars(n) => chars(list, at, s, n),
+        Field::ZeroEnded => zero_ended(list, at, s),
+        Field::Counted(size) => counted(list, at, s, size),
+    }
+}
+
+// The plan of a checked item, from a state and the list's field at an offset.
 pub fn plan_of(list: &[u8], at: usize, s: State, op: Op) -> Plan
-    requires { ⌜ T (validOp op) ⌝ }
-    ensures { λ r. ⌜ ((vs : List definition.Value) → values (drop at (now (list .entry))) ≡ accepted vs → ItemPlan (now (list .entry)) s vs op r) ⌝ }
+    requires { ⌜ Sound s ⌝ ∗ ⌜ isAccepted (values (drop at (now list))) ≡ true ⌝ ∗ ⌜ T (validOp op) ⌝ }
+    ensures { λ r. ⌜ ItemAt (now (list .entry)) at s op r ⌝ }
 {
     match op {
         Op::Blank => Plan::Skip,
-        Op::Set(x) => Plan::Set(set(x, s)),
+        Op::Set(x) => Plan::Set(x),
         Op::Pad(natural, zeros) => pad(s, natural, zeros),
         Op::Put(f) => field(list, at, s, f),
     }

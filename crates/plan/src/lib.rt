@@ -1,4 +1,4 @@
 // What writing puts for an item, after all of the item's checks.
-pub mod content;
 pub mod item;
+pub mod text;
 pub mod word;

@@ -1,4 +1,4 @@
-// The integer whose bytes a number option writes.
+// The bits of the integer that a number option writes.
 use coder::words::extent;
 use coder::words::to_word;
 use definition::Kind;
@@ -19,37 +19,22 @@ ghost use Rattle.definition.specs.declared.Kind.the-variants as kinds;
 ghost use Rattle.definition.proofs.Numbers.{validSize};
 ghost use Rattle.values.specs.Meaning.{meaning, Proper};
 ghost use Rattle.numbers.specs.Meaning.{bitsFound};
-ghost use Rattle.plan.specs.Words.{integerIs, wordIs, patternOr};
+ghost use Rattle.plan.specs.Words.{Says, patternOr};
 
-// An integer of 64 bits, or a pattern of 64 bits: the bits, and whether they are those of a negative integer.
-pub struct Word {
-    pub bits: u64,
-    pub negative: bool,
-}
-
-// A word, or the number of a refusal.
-pub enum Words {
+// The number of a refusal, or 64 bits: those of an integer, or a pattern.
+pub enum Word {
     Refused(u8),
-    Is(Word),
-}
-
-fn of_integer(z: i64) -> Word
-    ensures { λ r. ⌜ integerIs r ≡ z ⌝ }
-{
-    Word {
-        bits: to_word(z),
-        negative: z < 0,
-    }
+    Bits(u64),
 }
 
 // b h B H: any integer.
-fn any_integer(v: Value) -> Words
+fn any_integer(v: Value) -> Word
     requires { ⌜ Proper v ⌝ }
-    ensures { λ r. ⌜ ((l : List ℕ) (n : ℕ) → wordIs r ≡ fields.word kinds.SmallSigned n (meaning l v)) ⌝ }
+    ensures { λ r. ⌜ ((l : List ℕ) (n : ℕ) → Says n (fields.word kinds.SmallSigned n (meaning l v)) r) ⌝ }
 {
     match as_integer(v) {
-        Found::Integer(z) => Words::Is(of_integer(z)),
-        Found::Nothing => Words::Refused(12),
+        Found::Integer(z) => Word::Bits(to_word(z)),
+        Found::Nothing => Word::Refused(12),
     }
 }
 
@@ -78,70 +63,67 @@ fn in_unsigned(size: u64, z: i64) -> bool
 }
 
 // i l
-fn signed(size: u64, v: Value) -> Words
+fn signed(size: u64, v: Value) -> Word
     requires { ⌜ Proper v ⌝ ∗ ⌜ 1 ≤ size ⌝ }
-    ensures { λ r. ⌜ ((l : List ℕ) → wordIs r ≡ fields.word kinds.Signed size (meaning l v)) ⌝ }
+    ensures { λ r. ⌜ ((l : List ℕ) → Says size (fields.word kinds.Signed size (meaning l v)) r) ⌝ }
 {
     let Found::Integer(z) = as_integer(v) else {
-        return Words::Refused(12);
+        return Word::Refused(12);
     };
     if in_signed(size, z) {
-        Words::Is(of_integer(z))
+        Word::Bits(to_word(z))
     } else {
-        Words::Refused(13)
+        Word::Refused(13)
     }
 }
 
 // I L
-fn unsigned(size: u64, v: Value) -> Words
+fn unsigned(size: u64, v: Value) -> Word
     requires { ⌜ Proper v ⌝ }
-    ensures { λ r. ⌜ ((l : List ℕ) → wordIs r ≡ fields.word kinds.Unsigned size (meaning l v)) ⌝ }
+    ensures { λ r. ⌜ ((l : List ℕ) → Says size (fields.word kinds.Unsigned size (meaning l v)) r) ⌝ }
 {
     let Found::Integer(z) = as_integer(v) else {
-        return Words::Refused(12);
+        return Word::Refused(12);
     };
     if in_unsigned(size, z) {
-        Words::Is(of_integer(z))
+        Word::Bits(to_word(z))
     } else {
-        Words::Refused(13)
+        Word::Refused(13)
     }
 }
 
 // A pattern of 64 bits.
-fn pattern(n: Number) -> Words
-    ensures { λ r. ⌜ (wordIs r ≡ patternOr (bitsFound n)) × ((b : ℕ) → bitsFound n ≡ some b → b < 2 ^ 64) ⌝ }
+fn pattern(n: Number) -> Word
+    ensures { λ r. ⌜ ((k : ℕ) → k ≤ 8 → Says k (patternOr (bitsFound n)) r) × ((b : ℕ) → bitsFound n ≡ some b → b < 2 ^ 64) ⌝ }
 {
     match n {
-        Number::Bits(b) => Words::Is(Word {
-            bits: b,
-            negative: false,
-        }),
-        Number::Nothing => Words::Refused(12),
+        Number::Bits(b) => Word::Bits(b),
+        Number::Nothing => Word::Refused(12),
     }
 }
 
 // j: an integer, or a float's bits.
-fn lua_integer(v: Value) -> Words
+fn lua_integer(v: Value) -> Word
     requires { ⌜ Proper v ⌝ }
-    ensures { λ r. ⌜ ((l : List ℕ) (n : ℕ) → wordIs r ≡ fields.word kinds.LuaInteger n (meaning l v)) ⌝ }
+    ensures { λ r. ⌜ ((l : List ℕ) (n : ℕ) → n ≤ 8 → Says n (fields.word kinds.LuaInteger n (meaning l v)) r) ⌝ }
 {
     match as_integer(v) {
-        Found::Integer(z) => Words::Is(of_integer(z)),
+        Found::Integer(z) => Word::Bits(to_word(z)),
         Found::Nothing => pattern(as_number(v)),
     }
 }
 
 // J: the same, but for an integer below 0.
-fn lua_unsigned(v: Value) -> Words
+fn lua_unsigned(v: Value) -> Word
     requires { ⌜ Proper v ⌝ }
-    ensures { λ r. ⌜ ((l : List ℕ) → wordIs r ≡ fields.word kinds.LuaUnsigned 8 (meaning l v)) ⌝ }
+    ensures { λ r. ⌜ ((l : List ℕ) → Says 8 (fields.word kinds.LuaUnsigned 8 (meaning l v)) r) ⌝ }
 {
     match as_integer(v) {
         Found::Integer(z) => {
             if z < 0 {
-                Words::Refused(13)
+                Word::Refused(13)
             } else {
-                Words::Is(of_integer(z))
+                Word::Bits(to_word(z))
             }
         }
         Found::Nothing => pattern(as_number(v)),
@@ -149,42 +131,39 @@ fn lua_unsigned(v: Value) -> Words
 }
 
 // T: an integer, or a float modulo 2^64.
-fn size_word(v: Value) -> Words
+fn size_word(v: Value) -> Word
     requires { ⌜ Proper v ⌝ }
-    ensures { λ r. ⌜ ((l : List ℕ) (n : ℕ) → wordIs r ≡ fields.word kinds.Size n (meaning l v)) ⌝ }
+    ensures { λ r. ⌜ ((l : List ℕ) (n : ℕ) → n ≤ 8 → Says n (fields.word kinds.Size n (meaning l v)) r) ⌝ }
 {
     match as_integer(v) {
-        Found::Integer(z) => Words::Is(of_integer(z)),
+        Found::Integer(z) => Word::Bits(to_word(z)),
         Found::Nothing => pattern(as_wrapped(v)),
     }
 }
 
 // f: a number, rounded.
-fn single(v: Value) -> Words
+fn single(v: Value) -> Word
     requires { ⌜ Proper v ⌝ }
-    ensures { λ r. ⌜ ((l : List ℕ) (n : ℕ) → wordIs r ≡ fields.word kinds.Single n (meaning l v)) ⌝ }
+    ensures { λ r. ⌜ ((l : List ℕ) (n : ℕ) → n ≤ 8 → Says n (fields.word kinds.Single n (meaning l v)) r) ⌝ }
 {
     match as_number(v) {
-        Number::Bits(b) => Words::Is(Word {
-            bits: to_single(b) as u64,
-            negative: false,
-        }),
-        Number::Nothing => Words::Refused(12),
+        Number::Bits(b) => Word::Bits(to_single(b) as u64),
+        Number::Nothing => Word::Refused(12),
     }
 }
 
 // d n: a number.
-fn double(v: Value) -> Words
+fn double(v: Value) -> Word
     requires { ⌜ Proper v ⌝ }
-    ensures { λ r. ⌜ ((l : List ℕ) (n : ℕ) → wordIs r ≡ fields.word kinds.Double n (meaning l v)) ⌝ }
+    ensures { λ r. ⌜ ((l : List ℕ) (n : ℕ) → n ≤ 8 → Says n (fields.word kinds.Double n (meaning l v)) r) ⌝ }
 {
     pattern(as_number(v))
 }
 
 // The word of a value: 12, 13.
-pub fn word_of(kind: Kind, size: u64, v: Value) -> Words
+pub fn word_of(kind: Kind, size: u64, v: Value) -> Word
     requires { ⌜ Proper v ⌝ ∗ ⌜ T (validSize kind size) ⌝ }
-    ensures { λ r. ⌜ ((l : List ℕ) → wordIs r ≡ fields.word kind size (meaning l v)) ⌝ }
+    ensures { λ r. ⌜ ((l : List ℕ) → Says size (fields.word kind size (meaning l v)) r) ⌝ }
 {
     match kind {
         Kind::SmallSigned => any_integer(v),

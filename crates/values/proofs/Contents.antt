@@ -1,6 +1,6 @@
 -- The field at an offset, by its bytes: its tag, its length n and its content.
 use Prim.Native.Nat.{ℕ, _+_, _≤_, _<_}
-use mathlib.Core.Path.{_≡_, refl, sym, ap, _∙_}
+use mathlib.Core.Path.{_≡_, refl, sym, ap, _∙_, subst}
 use mathlib.Core.Bool.{Bool, true, false, cond}
 use mathlib.Core.List.{List}
 use mathlib.Core.Option.{some}
@@ -10,14 +10,16 @@ use native.Mathlib.Omega.{arith}
 use lib.Dec.{leb, eqb}
 use lib.ListN.{length, take, drop, getD, length-drop, drop-of-length-le}
 use lib.Seq.{drop-cons, drop-drop, length-take-le}
-use borrow.Author.Tests.{le-leb, lt-leb, eq-eqb, ne-eqb, leb-true, eqb-true, eqb-false}
+use borrow.Author.Tests.{le-leb, lt-leb, eq-eqb, ne-eqb, leb-true, leb-false, eqb-true, eqb-false}
 use Rattle.definition.specs.Answers.{Checked, refused, accepted, _>>=_, _>>_, require}
 use Rattle.definition.specs.Bytes.{signed}
 use Rattle.definition.specs.Values as definition
 use Rattle.definition.specs.Values.{integer, float, text, other}
-use Rattle.definition.specs.Lists.{bigTotal, valueOf, fieldOf}
+use Rattle.definition.specs.Lists.{bigTotal, valueOf, fieldOf, values}
+use Rattle.definition.proofs.Answers.{true-not-false}
+use Rattle.values.proofs.Fields.{refused-values}
 use Rattle.values.specs.Loading.{Loaded}
-use Rattle.values.specs.Meaning.{meaning, Proper, Inside, FloatRead, placed, fieldAt, sizeAt, Complete, suits, Whole, ValueRead, FieldRead}
+use Rattle.values.specs.Meaning.{isAccepted, meaning, Proper, Inside, FloatRead, placed, fieldAt, sizeAt, Complete, suits, Whole, ValueRead, FieldRead}
 use Rattle.values.specs.declared.Value.{Value}
 use Rattle.values.specs.declared.Value.the-variants.{Integer, Text, Other}
 use Rattle.values.specs.declared.Field.the-variants.{Found, End}
@@ -135,8 +137,14 @@ module _ (l : List ℕ) (at n : ℕ) (whole : Whole l at n) where
   pub text-value : tag ≡ 3 → ValueRead l at n (Text (at + 3) n)
   text-value e = is (Text (at + 3) n) tt (whole .complete .within, omega (arith, whole .complete .size .below)) (rw e)
 
+  none-left : tag ≡ 0 → eqb n 0 ≡ true
+  none-left e = rw e at (whole .tag)
+
+  pub other-none : tag ≡ 0 → n ≡ 0
+  other-none e = eqb-true n 0 (none-left e)
+
   pub other-value : tag ≡ 0 → ValueRead l at n Other
-  other-value e = let none-left : eqb n 0 ≡ true = rw e at (whole .tag) in is Other tt tt (rw (e, long, none-left))
+  other-value e = is Other tt tt (rw (e, long, none-left e))
 
   pub number-eight : (tag ≡ 3 → ⊥) → (tag ≡ 0 → ⊥) → n ≡ 8
   number-eight three none = go (eqb tag 1) (eqb tag 2) (rw (ne-eqb tag 0 none, ne-eqb tag 3 three) at (whole .tag))
@@ -166,5 +174,32 @@ module _ (l : List ℕ) (at n : ℕ) (whole : Whole l at n) where
             go true d e = eqb-true tag 2 d
             go false d e = absurd (let z : _≡_ {A = ℕ} 0 1 = cc in omega arith)
 
-pub found : (l : List ℕ) (at n : ℕ) (v : Value) → Whole l at n → ValueRead l at n v → FieldRead l at (Found v (at + 3 + n))
-found l at n v whole is = record { says = is .says; sound = record { behind = omega arith; within = whole .complete .within; proper = is .proper; inside = is .inside } }
+
+module _ (l : List ℕ) (at n : ℕ) (v : Value) (whole : Whole l at n) (is : ValueRead l at n v) where
+  pub found : FieldRead l at (Found v (at + 3 + n))
+  found = record { says = is .says; sound = record { behind = omega arith; within = whole .complete .within; proper = is .proper; inside = is .inside } }
+
+  pub found-by : (next : ℕ) → at + 3 + n ≡ next → FieldRead l at (Found v next)
+  found-by next e = subst (λ (k : ℕ). FieldRead l at (Found v k)) e found
+
+-- ---- the field at an offset of a list that is well formed from there on
+module _ (l : List ℕ) (at : ℕ) (known : isAccepted (values (drop at l)) ≡ true) where
+  not-refused : some (refused 21) ≡ fieldAt l at → ⊥
+  not-refused e = let h = ap isAccepted (refused-values l at 21 e) in true-not-false (sym known ∙ h)
+
+  module _ (h : at < length l) where
+    pub not-cut-short : at + 3 + sizeAt l at ≤ length l
+    not-cut-short = go (leb (at + 3 + sizeAt l at) (length l)) refl
+      where
+        go : (p : Bool) → leb (at + 3 + sizeAt l at) (length l) ≡ p → at + 3 + sizeAt l at ≤ length l
+        go true e = leb-true (at + 3 + sizeAt l at) (length l) e
+        go false e = absurd (not-refused (cut-short l at h (leb-false (at + 3 + sizeAt l at) (length l) e)))
+
+    pub well-formed : (n : ℕ) → Loaded l (at + 1) 2 n → Whole l at n
+    well-formed n size =
+        let complete : Complete l at n = record { within = omega (arith, size .is, not-cut-short); size = size } in
+        record { complete = complete; tag = go complete (suits (getD l at 0) n) refl }
+      where
+        go : Complete l at n → (p : Bool) → suits (getD l at 0) n ≡ p → p ≡ true
+        go c true e = refl
+        go c false e = absurd (not-refused (unsuited l at n c e))

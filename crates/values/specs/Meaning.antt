@@ -17,7 +17,7 @@ use Rattle.values.specs.declared.Content.the-variants as Content
 use Rattle.values.specs.declared.Value.{Value}
 use Rattle.values.specs.declared.Value.the-variants.{Integer, Float, NotANumber, Text, Other}
 use Rattle.values.specs.declared.Field.{Field}
-use Rattle.values.specs.declared.Field.the-variants.{Found, End, Malformed}
+use Rattle.values.specs.declared.Field.the-variants.{Found, End}
 
 -- ---- values
 
@@ -74,7 +74,6 @@ fieldAt l at = firstField at (drop at l)
 abbrev pub answer : List ℕ → Field → Standing
 answer l (Found v next) = some (accepted (meaning l v, next))
 answer l End = none
-answer l Malformed = some (refused 21)
 
 -- what else is so of a field that is found at an offset of l
 pub record Sound (l : List ℕ) (at : ℕ) (v : Value) (next : ℕ) : Type 0 where
@@ -86,7 +85,6 @@ pub record Sound (l : List ℕ) (at : ℕ) (v : Value) (next : ℕ) : Type 0 whe
 abbrev pub SoundField : List ℕ → ℕ → Field → Type 0
 SoundField l at (Found v next) = Sound l at v next
 SoundField l at End = Unit {0}
-SoundField l at Malformed = Unit {0}
 
 -- the length of content that the field at an offset of l says
 abbrev pub sizeAt : List ℕ → ℕ → ℕ

@@ -5,6 +5,7 @@ use coder::words::to_word;
 use coder::writing::put;
 use coder::writing::put_copy;
 ghost use mathlib.Core.Path.{_≡_};
+ghost use mathlib.Core.Bool.{true};
 ghost use mathlib.Core.List.{[], _∷_, _++_};
 ghost use Prim.Native.Nat.{_+_, _≤_, _<_};
 ghost use lib.ListN.{length, take, drop};
@@ -12,7 +13,7 @@ ghost use lib.Seq.{paste};
 ghost use Rattle.definition.specs.Values as definition;
 ghost use Rattle.definition.specs.Lists.{big, values, listOf};
 ghost use Rattle.values.specs.Loading.{Loaded};
-ghost use Rattle.values.specs.Meaning.{FloatRead, LengthRead, suits, Whole, ContentRead, ValueRead, FieldRead, isAccepted, After};
+ghost use Rattle.values.specs.Meaning.{FloatRead, LengthRead, suits, Whole, ContentRead, FieldRead, isAccepted, After};
 
 // A value of a list.
 pub enum Value {
@@ -26,11 +27,10 @@ pub enum Value {
     Other,
 }
 
-// What stands at an offset of a list: a value, with the offset of the next field; the end; or a field that is malformed.
+// What stands at an offset of a list: a value, with the offset of the next field; or the end.
 pub enum Field {
     Found(Value, usize),
     End,
-    Malformed,
 }
 
 // The tags, and the number of bytes before a field's content.
@@ -121,37 +121,36 @@ fn float_of(b: u64) -> Value
     }
 }
 
-// The value of the field at an offset, which has a content of n bytes.
-fn value_at(list: &[u8], at: usize, n: usize) -> Value
+// The field at an offset, which has a content of n bytes.
+fn value_at(list: &[u8], at: usize, n: usize) -> Field
     requires { ⌜ Whole (now list) at n ⌝ }
-    ensures { λ r. ⌜ ValueRead (now (list .entry)) at n r ⌝ }
+    ensures { λ r. ⌜ FieldRead (now (list .entry)) at r ⌝ }
 {
     let tag = list[at];
     let start = at + HEAD;
     if tag == TAG_TEXT {
-        return Value::Text(start, n);
+        return Field::Found(Value::Text(start, n), start + n);
     }
     if tag == TAG_OTHER {
-        return Value::Other;
+        return Field::Found(Value::Other, start);
     }
     let b = number_at(list, start, 8);
+    let next = start + 8;
     if tag == TAG_INTEGER {
-        return Value::Integer(to_signed(b));
+        return Field::Found(Value::Integer(to_signed(b)), next);
     }
-    float_of(b)
+    Field::Found(float_of(b), next)
 }
 
-// The field at an offset.
+// The field at an offset of a list that is well formed from there on.
 pub fn field_at(list: &[u8], at: usize) -> Field
+    requires { ⌜ isAccepted (values (drop at (now list))) ≡ true ⌝ }
     ensures { λ r. ⌜ FieldRead (now (list .entry)) at r ⌝ }
 {
     if at >= list.len() {
         return Field::End;
     }
-    match content_at(list, at) {
-        Content::Length(n) => Field::Found(value_at(list, at, n), at + HEAD + n),
-        Content::Malformed => Field::Malformed,
-    }
+    value_at(list, at, number_at(list, at + 1, 2) as usize)
 }
 
 // Whether the list is fields and nothing else.

@@ -1,9 +1,8 @@
 -- Each kind of item has its own function.
-use mathlib.Core.Path.{_≡_, refl, sym, ap, _∙_}
 use denote.Ref.{now}
 use Rattle.definition.specs.declared.Op.the-variants as Op
 use Rattle.plan.specs.declared.item.Plan.the-variants as Plan
-use Rattle.plan.proofs.Plans.{of-op, op-as, pad-small, skips, sets-state}
+use Rattle.plan.proofs.Plans.{pad-small, op-as, of-op, skips, sets-state}
 use borrow.Author.Needs.{needs}
 use Rattle.plan.proofs.item.plan_of.Statement.{statement}
 use Rattle.plan.proofs.item.plan_of.Tie as tie
@@ -14,32 +13,29 @@ enum-told c = search needs
 enum-known-op : tie.Need-enum-known-op
 enum-known-op c = search needs
 
-set-requires : tie.Need-set-requires
-set-requires c κs = search needs
-
 enum-known-op-2 : tie.Need-enum-known-op-2
 enum-known-op-2 c = search needs
 
 pad-requires : tie.Need-pad-requires
-pad-requires c κs = pad-small (c .before .before .before .before .args .op) _ _ (c .before .before .before .before .pre) (c .before .op2 .given .1)
+pad-requires c κs = (c .before .before .before .before .pre .0, pad-small (c .before .before .before .before .args .op) _ _ (c .before .before .before .before .pre .1 .1) (c .before .op2 .given .1))
 
 enum-known-op-3 : tie.Need-enum-known-op-3
 enum-known-op-3 c = search needs
 
 field-requires : tie.Need-field-requires
-field-requires c κs = op-as (c .before .before .before .before .args .op) _ (c .before .before .before .before .pre) (c .before .op3 .given .1)
+field-requires c κs = (c .before .before .before .before .pre .0, (c .before .before .before .before .pre .1 .0, op-as (c .before .before .before .before .args .op) _ (c .before .before .before .before .pre .1 .1) (c .before .op3 .given .1)))
 
 returns : tie.Need-returns
-returns c = λ vs e. of-op (now (c .before .before .before .args .list)) (c .before .before .before .args .s) vs (c .before .before .before .args .op) Op.Blank Plan.Skip (skips (c .before .before .before .args .s) vs) (c .enum-told .given .1)
+returns c = of-op (now (c .before .before .before .args .list)) (c .before .before .before .args .at) (c .before .before .before .args .s) (c .before .before .before .args .op) Op.Blank Plan.Skip (skips (now (c .before .before .before .args .list)) (c .before .before .before .args .at) (c .before .before .before .args .s)) (c .enum-told .given .1)
 
 returns-2 : tie.Need-returns-2
-returns-2 c = λ vs e. of-op (now (c .before .before .before .before .before .args .list)) (c .before .before .before .before .before .args .s) vs (c .before .before .before .before .before .args .op) (Op.Set (c .before .before .op .given .0 .0)) (Plan.Set (c .set .result)) (sets-state (c .before .before .before .before .before .args .s) (c .set .result) vs (c .before .before .op .given .0 .0) (c .set .ensures)) (c .before .before .op .given .1)
+returns-2 c = of-op (now (c .before .before .before .before .args .list)) (c .before .before .before .before .args .at) (c .before .before .before .before .args .s) (c .before .before .before .before .args .op) (Op.Set (c .before .op .given .0 .0)) (Plan.Set (c .before .op .given .0 .0)) (sets-state (now (c .before .before .before .before .args .list)) (c .before .before .before .before .args .at) (c .before .before .before .before .args .s) (c .before .op .given .0 .0)) (c .before .op .given .1)
 
 returns-3 : tie.Need-returns-3
-returns-3 c = λ vs e. of-op (now (c .before .before .before .before .before .args .list)) (c .before .before .before .before .before .args .s) vs (c .before .before .before .before .before .args .op) (Op.Pad (c .before .before .op2 .given .0 .0) (c .before .before .op2 .given .0 .1 .0)) (c .pad .result) (c .pad .ensures (now (c .before .before .before .before .before .args .list)) vs) (c .before .before .op2 .given .1)
+returns-3 c = of-op (now (c .before .before .before .before .before .args .list)) (c .before .before .before .before .before .args .at) (c .before .before .before .before .before .args .s) (c .before .before .before .before .before .args .op) _ (c .pad .result) (λ vs known. c .pad .ensures (now (c .before .before .before .before .before .args .list)) vs) (c .before .before .op2 .given .1)
 
 returns-4 : tie.Need-returns-4
-returns-4 c = λ vs e. of-op (now (c .before .before .before .before .before .args .list)) (c .before .before .before .before .before .args .s) vs (c .before .before .before .before .before .args .op) (Op.Put (c .before .before .op3 .given .0 .0)) (c .field .result) (c .field .ensures vs e) (c .before .before .op3 .given .1)
+returns-4 c = of-op (now (c .before .before .before .before .before .args .list)) (c .before .before .before .before .before .args .at) (c .before .before .before .before .before .args .s) (c .before .before .before .before .before .args .op) _ (c .field .result) (c .field .ensures) (c .before .before .op3 .given .1)
 
 pub plan-of-spec : {M : Type 1} → statement M
 plan-of-spec =
@@ -47,7 +43,6 @@ plan-of-spec =
     (tie.spec
     enum-told
     enum-known-op
-    set-requires
     enum-known-op-2
     pad-requires
     enum-known-op-3

@@ -1,5 +1,5 @@
 -- The integer that was found, or 12.
-use Rattle.plan.proofs.Words.{same-integer, small-word, small-none}
+use Rattle.plan.proofs.Words.{says-integer, says-refused, small-word, small-none}
 use mathlib.Core.Path.{_≡_, refl, sym, ap, _∙_}
 use Rattle.definition.specs.Answers.{accepted}
 use Rattle.numbers.specs.Meaning.{integerFound}
@@ -14,19 +14,19 @@ as-integer-requires c κs = search needs
 enum-known-z : tie.Need-enum-known-z
 enum-known-z c = search needs
 
-of-integer-requires : tie.Need-of-integer-requires
-of-integer-requires c κs = search needs
+to-word-requires : tie.Need-to-word-requires
+to-word-requires c κs = search needs
 
 enum-told : tie.Need-enum-told
 enum-told c = search needs
 
 returns : tie.Need-returns
-returns c = λ l n. ap accepted (c .of-integer .ensures ∙ same-integer _ (c .before .known-told .given .0 .1)) ∙ sym (small-word _ _ (sym (c .before .before .before .before .as-integer .ensures l) ∙ ap integerFound (c .before .before .z .given .1)) n)
+returns c = λ l n. says-integer n _ _ (c .before .known-told .given .0 .1) (c .to-word .ensures) (small-word _ _ (sym (c .before .before .before .before .as-integer .ensures l) ∙ ap integerFound (c .before .before .z .given .1)) n)
 
 returns-2 : tie.Need-returns-2
-returns-2 c = λ l n. sym (small-none _ (sym (c .before .before .as-integer .ensures l) ∙ ap integerFound (c .enum-told .given .1)) n)
+returns-2 c = λ l n. says-refused n _ (small-none _ (sym (c .before .before .as-integer .ensures l) ∙ ap integerFound (c .enum-told .given .1)) n)
 
 pub any-integer-spec : {M : Type 1} → statement M
 any-integer-spec =
     tie.close
-    (tie.spec as-integer-requires enum-known-z of-integer-requires enum-told returns returns-2)
+    (tie.spec as-integer-requires enum-known-z to-word-requires enum-told returns returns-2)

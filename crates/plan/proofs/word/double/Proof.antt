@@ -1,7 +1,7 @@
 -- The number that was found, or 12.
 use mathlib.Core.Path.{_≡_, refl, sym, ap, _∙_}
 use Rattle.plan.specs.Words.{patternOr}
-use Rattle.plan.proofs.Words.{double-word}
+use Rattle.plan.proofs.Words.{says-as, double-word}
 use borrow.Author.Needs.{needs}
 use Rattle.plan.proofs.word.double.Statement.{statement}
 use Rattle.plan.proofs.word.double.Tie as tie
@@ -13,7 +13,7 @@ pattern-requires : tie.Need-pattern-requires
 pattern-requires c κs = search needs
 
 returns : tie.Need-returns
-returns c = λ l n. c .pattern .ensures .0 ∙ ap patternOr (c .before .as-number .ensures l) ∙ sym (double-word _ n)
+returns c = λ l n h. says-as n (c .pattern .result) (c .pattern .ensures .0 n h) (double-word _ n ∙ sym (ap patternOr (c .before .as-number .ensures l)))
 
 pub double-spec : {M : Type 1} → statement M
 double-spec = tie.close (tie.spec as-number-requires pattern-requires returns)

@@ -3,7 +3,7 @@ use mathlib.Core.Path.{_≡_, refl, sym, ap, _∙_}
 use Rattle.definition.specs.Answers.{accepted}
 use Rattle.numbers.specs.Meaning.{integerFound}
 use Rattle.plan.specs.Words.{patternOr}
-use Rattle.plan.proofs.Words.{same-integer, lua-word, lua-pattern}
+use Rattle.plan.proofs.Words.{says-integer, says-as, lua-word, lua-pattern}
 use borrow.Author.Needs.{needs}
 use Rattle.plan.proofs.word.lua_integer.Statement.{statement}
 use Rattle.plan.proofs.word.lua_integer.Tie as tie
@@ -14,8 +14,8 @@ as-integer-requires c κs = search needs
 enum-known-z : tie.Need-enum-known-z
 enum-known-z c = search needs
 
-of-integer-requires : tie.Need-of-integer-requires
-of-integer-requires c κs = search needs
+to-word-requires : tie.Need-to-word-requires
+to-word-requires c κs = search needs
 
 enum-told : tie.Need-enum-told
 enum-told c = search needs
@@ -27,10 +27,10 @@ pattern-requires : tie.Need-pattern-requires
 pattern-requires c κs = search needs
 
 returns : tie.Need-returns
-returns c = λ l n. ap accepted (c .of-integer .ensures ∙ same-integer _ (c .before .known-told .given .0 .1)) ∙ sym (lua-word _ _ (sym (c .before .before .before .before .as-integer .ensures l) ∙ ap integerFound (c .before .before .z .given .1)) n)
+returns c = λ l n h. says-integer n _ _ (c .before .known-told .given .0 .1) (c .to-word .ensures) (lua-word _ _ (sym (c .before .before .before .before .as-integer .ensures l) ∙ ap integerFound (c .before .before .z .given .1)) n)
 
 returns-2 : tie.Need-returns-2
-returns-2 c = λ l n. c .pattern .ensures .0 ∙ ap patternOr (c .before .as-number .ensures l) ∙ sym (lua-pattern _ n (sym (c .before .before .before .before .as-integer .ensures l) ∙ ap integerFound (c .before .before .enum-told .given .1)))
+returns-2 c = λ l n h. says-as n (c .pattern .result) (c .pattern .ensures .0 n h) (lua-pattern _ n (sym (c .before .before .before .before .as-integer .ensures l) ∙ ap integerFound (c .before .before .enum-told .given .1)) ∙ sym (ap patternOr (c .before .as-number .ensures l)))
 
 pub lua-integer-spec : {M : Type 1} → statement M
 lua-integer-spec =
@@ -38,7 +38,7 @@ lua-integer-spec =
     (tie.spec
     as-integer-requires
     enum-known-z
-    of-integer-requires
+    to-word-requires
     enum-told
     as-number-requires
     pattern-requires

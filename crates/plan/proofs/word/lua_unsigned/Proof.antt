@@ -3,7 +3,7 @@ use mathlib.Core.Path.{_≡_, refl, sym, ap, _∙_}
 use Rattle.definition.specs.Answers.{accepted}
 use Rattle.numbers.specs.Meaning.{integerFound}
 use Rattle.plan.specs.Words.{patternOr}
-use Rattle.plan.proofs.Words.{fits-of, same-integer, unsigned-negative, unsigned-wide, lua-unsigned-word, lua-unsigned-out, lua-unsigned-pattern}
+use Rattle.plan.proofs.Words.{says-integer, says-refused, says-as, fits-of, unsigned-negative, unsigned-wide, lua-unsigned-word, lua-unsigned-out, lua-unsigned-pattern}
 use lib.Dec.{lit≤}
 use borrow.Author.Needs.{needs}
 use Rattle.plan.proofs.word.lua_unsigned.Statement.{statement}
@@ -15,8 +15,8 @@ as-integer-requires c κs = search needs
 enum-known-z : tie.Need-enum-known-z
 enum-known-z c = search needs
 
-of-integer-requires : tie.Need-of-integer-requires
-of-integer-requires c κs = search needs
+to-word-requires : tie.Need-to-word-requires
+to-word-requires c κs = search needs
 
 enum-told : tie.Need-enum-told
 enum-told c = search needs
@@ -28,13 +28,13 @@ pattern-requires : tie.Need-pattern-requires
 pattern-requires c κs = search needs
 
 returns : tie.Need-returns
-returns c = λ l. sym (lua-unsigned-out _ (c .before .before .z .given .0 .0) (sym (c .before .before .before .before .as-integer .ensures l) ∙ ap integerFound (c .before .before .z .given .1)) 8 (unsigned-negative 8 (c .before .before .z .given .0 .0) (fits-of (c .before .before .z .given .0 .0) (c .before .known-told .given .0 .1)) (c .if1 .taken)))
+returns c = λ l. says-refused _ _ (lua-unsigned-out _ (c .before .before .z .given .0 .0) (sym (c .before .before .before .before .as-integer .ensures l) ∙ ap integerFound (c .before .before .z .given .1)) 8 (unsigned-negative 8 (c .before .before .z .given .0 .0) (fits-of (c .before .before .z .given .0 .0) (c .before .known-told .given .0 .1)) (c .if1 .taken)))
 
 returns-2 : tie.Need-returns-2
-returns-2 c = λ l. ap accepted (c .of-integer .ensures ∙ same-integer (c .before .before .before .z .given .0 .0) (c .before .before .known-told .given .0 .1)) ∙ sym (lua-unsigned-word _ (c .before .before .before .z .given .0 .0) (sym (c .before .before .before .before .before .as-integer .ensures l) ∙ ap integerFound (c .before .before .before .z .given .1)) 8 (unsigned-wide 8 (c .before .before .before .z .given .0 .0) (fits-of (c .before .before .before .z .given .0 .0) (c .before .before .known-told .given .0 .1)) (c .before .if1 .left) (lit≤ tt)))
+returns-2 c = λ l. says-integer _ _ (c .before .before .before .z .given .0 .0) (c .before .before .known-told .given .0 .1) (c .to-word .ensures) (lua-unsigned-word _ (c .before .before .before .z .given .0 .0) (sym (c .before .before .before .before .before .as-integer .ensures l) ∙ ap integerFound (c .before .before .before .z .given .1)) 8 (unsigned-wide 8 (c .before .before .before .z .given .0 .0) (fits-of (c .before .before .before .z .given .0 .0) (c .before .before .known-told .given .0 .1)) (c .before .if1 .left) (lit≤ tt)))
 
 returns-3 : tie.Need-returns-3
-returns-3 c = λ l. c .pattern .ensures .0 ∙ ap patternOr (c .before .as-number .ensures l) ∙ sym (lua-unsigned-pattern _ (sym (c .before .before .before .before .as-integer .ensures l) ∙ ap integerFound (c .before .before .enum-told .given .1)) (λ b e. c .pattern .ensures .1 b (c .before .as-number .ensures l ∙ e)))
+returns-3 c = λ l. says-as 8 (c .pattern .result) (c .pattern .ensures .0 8 (lit≤ tt)) (lua-unsigned-pattern _ (sym (c .before .before .before .before .as-integer .ensures l) ∙ ap integerFound (c .before .before .enum-told .given .1)) (λ b e. c .pattern .ensures .1 b (c .before .as-number .ensures l ∙ e)) ∙ sym (ap patternOr (c .before .as-number .ensures l)))
 
 pub lua-unsigned-spec : {M : Type 1} → statement M
 lua-unsigned-spec =
@@ -42,7 +42,7 @@ lua-unsigned-spec =
     (tie.spec
     as-integer-requires
     enum-known-z
-    of-integer-requires
+    to-word-requires
     enum-told
     as-number-requires
     pattern-requires

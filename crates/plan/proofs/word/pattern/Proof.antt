@@ -1,6 +1,6 @@
 -- Bits that were found are a word that is not negative, and fit.
 use native.Mathlib.Omega.{arith}
-use Rattle.plan.proofs.Words.{same-bits, no-bits}
+use Rattle.plan.proofs.Words.{says-pattern, says-refused, same-bits, no-bits}
 use mathlib.Core.Path.{_≡_, refl, sym, ap, _∙_}
 use Rattle.numbers.specs.Meaning.{bitsFound}
 use Rattle.plan.specs.Words.{patternOr}
@@ -15,10 +15,10 @@ enum-told : tie.Need-enum-told
 enum-told c = search needs
 
 returns : tie.Need-returns
-returns c = (sym (ap (λ (x : _). patternOr (bitsFound x)) (c .before .n .given .1)), λ b e. same-bits _ b (sym (ap bitsFound (c .before .n .given .1)) ∙ e) (c .known-told .given .0 .1))
+returns c = (λ k h. says-pattern k _ h (ap (λ (x : _). patternOr (bitsFound x)) (c .before .n .given .1)), λ b e. same-bits _ b (sym (ap bitsFound (c .before .n .given .1)) ∙ e) (c .known-told .given .0 .1))
 
 returns-2 : tie.Need-returns-2
-returns-2 c = (sym (ap (λ (x : _). patternOr (bitsFound x)) (c .enum-told .given .1)), λ b e. absurd (no-bits (sym e ∙ ap bitsFound (c .enum-told .given .1))))
+returns-2 c = (λ k h. says-refused k _ (ap (λ (x : _). patternOr (bitsFound x)) (c .enum-told .given .1)), λ b e. absurd (no-bits (sym e ∙ ap bitsFound (c .enum-told .given .1))))
 
 pub pattern-spec : {M : Type 1} → statement M
 pattern-spec = tie.close (tie.spec enum-known-n enum-told returns returns-2)

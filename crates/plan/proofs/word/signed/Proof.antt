@@ -1,5 +1,5 @@
 -- The integer that was found, 13 where it is out of range, or 12.
-use Rattle.plan.proofs.Words.{same-integer, signed-word, signed-out, signed-none}
+use Rattle.plan.proofs.Words.{says-integer, says-refused, same-integer, signed-word, signed-out, signed-none}
 use mathlib.Core.Path.{_≡_, refl, sym, ap, _∙_}
 use Rattle.definition.specs.Answers.{accepted}
 use Rattle.definition.specs.Fields.{inSigned}
@@ -19,19 +19,19 @@ enum-told : tie.Need-enum-told
 enum-told c = search needs
 
 returns : tie.Need-returns
-returns c = λ l. sym (signed-none _ (sym (c .before .before .as-integer .ensures l) ∙ ap integerFound (c .enum-told .given .1)) _)
+returns c = λ l. says-refused _ _ (signed-none _ (sym (c .before .before .as-integer .ensures l) ∙ ap integerFound (c .enum-told .given .1)) _)
 
 in-signed-requires : tie.Need-in-signed-requires
 in-signed-requires c κs = search needs
 
-of-integer-requires : tie.Need-of-integer-requires
-of-integer-requires c κs = search needs
+to-word-requires : tie.Need-to-word-requires
+to-word-requires c κs = search needs
 
 returns-2 : tie.Need-returns-2
-returns-2 c = λ l. ap accepted (c .of-integer .ensures ∙ same-integer (c .before .before .before .before .z .given .0 .0) (c .before .before .before .known-told .given .0 .1)) ∙ sym (signed-word _ (c .before .before .before .before .z .given .0 .0) (sym (c .before .before .before .before .before .before .as-integer .ensures l) ∙ ap integerFound (c .before .before .before .before .z .given .1)) (c .before .before .before .before .before .before .before .args .size) (ap (inSigned (c .before .before .before .before .before .before .before .args .size)) (sym (same-integer (c .before .before .before .before .z .given .0 .0) (c .before .before .before .known-told .given .0 .1))) ∙ sym (c .before .before .in-signed .ensures) ∙ c .before .if1 .taken))
+returns-2 c = λ l. says-integer _ _ (c .before .before .before .before .z .given .0 .0) (c .before .before .before .known-told .given .0 .1) (c .to-word .ensures) (signed-word _ (c .before .before .before .before .z .given .0 .0) (sym (c .before .before .before .before .before .before .as-integer .ensures l) ∙ ap integerFound (c .before .before .before .before .z .given .1)) (c .before .before .before .before .before .before .before .args .size) (ap (inSigned (c .before .before .before .before .before .before .before .args .size)) (sym (same-integer (c .before .before .before .before .z .given .0 .0) (c .before .before .before .known-told .given .0 .1))) ∙ sym (c .before .before .in-signed .ensures) ∙ c .before .if1 .taken))
 
 returns-3 : tie.Need-returns-3
-returns-3 c = λ l. sym (signed-out _ (c .before .before .before .z .given .0 .0) (sym (c .before .before .before .before .before .as-integer .ensures l) ∙ ap integerFound (c .before .before .before .z .given .1)) (c .before .before .before .before .before .before .args .size) (ap (inSigned (c .before .before .before .before .before .before .args .size)) (sym (same-integer (c .before .before .before .z .given .0 .0) (c .before .before .known-told .given .0 .1))) ∙ sym (c .before .in-signed .ensures) ∙ c .if1 .left))
+returns-3 c = λ l. says-refused _ _ (signed-out _ (c .before .before .before .z .given .0 .0) (sym (c .before .before .before .before .before .as-integer .ensures l) ∙ ap integerFound (c .before .before .before .z .given .1)) (c .before .before .before .before .before .before .args .size) (ap (inSigned (c .before .before .before .before .before .before .args .size)) (sym (same-integer (c .before .before .before .z .given .0 .0) (c .before .before .known-told .given .0 .1))) ∙ sym (c .before .in-signed .ensures) ∙ c .if1 .left))
 
 pub signed-spec : {M : Type 1} → statement M
 signed-spec =
@@ -42,6 +42,6 @@ signed-spec =
     enum-told
     returns
     in-signed-requires
-    of-integer-requires
+    to-word-requires
     returns-2
     returns-3)

@@ -4,7 +4,7 @@ use Rattle.definition.specs.Answers.{accepted}
 use lib.IntN.{pos}
 use Prim.Native.Nat.{ℕ}
 use Rattle.numbers.specs.Meaning.{bitsFound}
-use Rattle.plan.proofs.Words.{single-word, single-none}
+use Rattle.plan.proofs.Words.{says-pattern, says-refused, single-word, single-none}
 use borrow.Author.Needs.{needs}
 use Rattle.plan.proofs.word.single.Statement.{statement}
 use Rattle.plan.proofs.word.single.Tie as tie
@@ -25,10 +25,10 @@ enum-told : tie.Need-enum-told
 enum-told c = search needs
 
 returns : tie.Need-returns
-returns c = λ l n. ap (λ (x : ℕ). accepted (pos x)) (c .to-single .ensures) ∙ sym (single-word _ _ n (sym (c .before .before .before .before .as-number .ensures l) ∙ ap bitsFound (c .before .before .b .given .1)))
+returns c = λ l n h. says-pattern n _ h (single-word _ _ n (sym (c .before .before .before .before .as-number .ensures l) ∙ ap bitsFound (c .before .before .b .given .1)) ∙ ap (λ (x : ℕ). accepted (pos x)) (sym (c .to-single .ensures)))
 
 returns-2 : tie.Need-returns-2
-returns-2 c = λ l n. sym (single-none _ n (sym (c .before .before .as-number .ensures l) ∙ ap bitsFound (c .enum-told .given .1)))
+returns-2 c = λ l n h. says-refused n _ (single-none _ n (sym (c .before .before .as-number .ensures l) ∙ ap bitsFound (c .enum-told .given .1)))
 
 pub single-spec : {M : Type 1} → statement M
 single-spec =

@@ -3,7 +3,7 @@ use mathlib.Core.Path.{_≡_, refl, sym, ap, _∙_}
 use Rattle.definition.specs.Answers.{accepted}
 use Rattle.numbers.specs.Meaning.{integerFound}
 use Rattle.definition.specs.Fields.{inUnsigned}
-use Rattle.plan.proofs.Words.{same-integer, unsigned-word, unsigned-out, unsigned-none}
+use Rattle.plan.proofs.Words.{says-integer, says-refused, same-integer, unsigned-word, unsigned-out, unsigned-none}
 use borrow.Author.Needs.{needs}
 use Rattle.plan.proofs.word.unsigned.Statement.{statement}
 use Rattle.plan.proofs.word.unsigned.Tie as tie
@@ -18,19 +18,19 @@ enum-told : tie.Need-enum-told
 enum-told c = search needs
 
 returns : tie.Need-returns
-returns c = λ l. sym (unsigned-none _ (sym (c .before .before .as-integer .ensures l) ∙ ap integerFound (c .enum-told .given .1)) _)
+returns c = λ l. says-refused _ _ (unsigned-none _ (sym (c .before .before .as-integer .ensures l) ∙ ap integerFound (c .enum-told .given .1)) _)
 
 in-unsigned-requires : tie.Need-in-unsigned-requires
 in-unsigned-requires c κs = search needs
 
-of-integer-requires : tie.Need-of-integer-requires
-of-integer-requires c κs = search needs
+to-word-requires : tie.Need-to-word-requires
+to-word-requires c κs = search needs
 
 returns-2 : tie.Need-returns-2
-returns-2 c = λ l. ap accepted (c .of-integer .ensures ∙ same-integer (c .before .before .before .before .z .given .0 .0) (c .before .before .before .known-told .given .0 .1)) ∙ sym (unsigned-word _ (c .before .before .before .before .z .given .0 .0) (sym (c .before .before .before .before .before .before .as-integer .ensures l) ∙ ap integerFound (c .before .before .before .before .z .given .1)) (c .before .before .before .before .before .before .before .args .size) (ap (inUnsigned (c .before .before .before .before .before .before .before .args .size)) (sym (same-integer (c .before .before .before .before .z .given .0 .0) (c .before .before .before .known-told .given .0 .1))) ∙ sym (c .before .before .in-unsigned .ensures) ∙ c .before .if1 .taken))
+returns-2 c = λ l. says-integer _ _ (c .before .before .before .before .z .given .0 .0) (c .before .before .before .known-told .given .0 .1) (c .to-word .ensures) (unsigned-word _ (c .before .before .before .before .z .given .0 .0) (sym (c .before .before .before .before .before .before .as-integer .ensures l) ∙ ap integerFound (c .before .before .before .before .z .given .1)) (c .before .before .before .before .before .before .before .args .size) (ap (inUnsigned (c .before .before .before .before .before .before .before .args .size)) (sym (same-integer (c .before .before .before .before .z .given .0 .0) (c .before .before .before .known-told .given .0 .1))) ∙ sym (c .before .before .in-unsigned .ensures) ∙ c .before .if1 .taken))
 
 returns-3 : tie.Need-returns-3
-returns-3 c = λ l. sym (unsigned-out _ (c .before .before .before .z .given .0 .0) (sym (c .before .before .before .before .before .as-integer .ensures l) ∙ ap integerFound (c .before .before .before .z .given .1)) (c .before .before .before .before .before .before .args .size) (ap (inUnsigned (c .before .before .before .before .before .before .args .size)) (sym (same-integer (c .before .before .before .z .given .0 .0) (c .before .before .known-told .given .0 .1))) ∙ sym (c .before .in-unsigned .ensures) ∙ c .if1 .left))
+returns-3 c = λ l. says-refused _ _ (unsigned-out _ (c .before .before .before .z .given .0 .0) (sym (c .before .before .before .before .before .as-integer .ensures l) ∙ ap integerFound (c .before .before .before .z .given .1)) (c .before .before .before .before .before .before .args .size) (ap (inUnsigned (c .before .before .before .before .before .before .args .size)) (sym (same-integer (c .before .before .before .z .given .0 .0) (c .before .before .known-told .given .0 .1))) ∙ sym (c .before .in-unsigned .ensures) ∙ c .if1 .left))
 
 pub unsigned-spec : {M : Type 1} → statement M
 unsigned-spec =
@@ -41,6 +41,6 @@ unsigned-spec =
     enum-told
     returns
     in-unsigned-requires
-    of-integer-requires
+    to-word-requires
     returns-2
     returns-3)

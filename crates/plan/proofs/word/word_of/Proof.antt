@@ -1,6 +1,6 @@
 -- Each kind has its own function.
-use Rattle.definition.specs.declared.Kind.the-variants.{LuaUnsigned}
-use Rattle.plan.proofs.Words.{of-kind, of-size, same-small, signed-from-1, lua-size}
+use Rattle.definition.specs.declared.Kind.the-variants.{LuaInteger, LuaUnsigned, Size, Single, Double}
+use Rattle.plan.proofs.Words.{says-as, pattern-size, of-kind, of-size, same-small, signed-from-1, lua-size}
 use mathlib.Core.Path.{_≡_, refl, sym, ap, _∙_}
 use borrow.Author.Needs.{needs}
 use Rattle.plan.proofs.word.word_of.Statement.{statement}
@@ -61,31 +61,31 @@ double-requires : tie.Need-double-requires
 double-requires c κs = search needs
 
 returns : tie.Need-returns
-returns c = λ l. of-kind (c .before .before .before .args .size) _ (c .any-integer .ensures l (c .before .before .before .args .size)) (c .before .enum-told .given .1)
+returns c = λ l. of-kind (c .before .before .before .args .size) _ (c .any-integer .result) (c .any-integer .ensures l (c .before .before .before .args .size)) (c .before .enum-told .given .1)
 
 returns-2 : tie.Need-returns-2
-returns-2 c = λ l. of-kind (c .before .before .before .args .size) _ (c .any-integer2 .ensures l (c .before .before .before .args .size) ∙ same-small (c .before .before .before .args .size) _) (c .before .enum-told2 .given .1)
+returns-2 c = λ l. of-kind (c .before .before .before .args .size) _ (c .any-integer2 .result) (says-as (c .before .before .before .args .size) (c .any-integer2 .result) (c .any-integer2 .ensures l (c .before .before .before .args .size)) (sym (same-small (c .before .before .before .args .size) _))) (c .before .enum-told2 .given .1)
 
 returns-3 : tie.Need-returns-3
-returns-3 c = λ l. of-kind (c .before .before .before .args .size) _ (c .signed .ensures l) (c .before .enum-told3 .given .1)
+returns-3 c = λ l. of-kind (c .before .before .before .args .size) _ (c .signed .result) (c .signed .ensures l) (c .before .enum-told3 .given .1)
 
 returns-4 : tie.Need-returns-4
-returns-4 c = λ l. of-kind (c .before .before .before .args .size) _ (c .unsigned .ensures l) (c .before .enum-told4 .given .1)
+returns-4 c = λ l. of-kind (c .before .before .before .args .size) _ (c .unsigned .result) (c .unsigned .ensures l) (c .before .enum-told4 .given .1)
 
 returns-5 : tie.Need-returns-5
-returns-5 c = λ l. of-kind (c .before .before .before .args .size) _ (c .lua-integer .ensures l (c .before .before .before .args .size)) (c .before .enum-told5 .given .1)
+returns-5 c = λ l. of-kind (c .before .before .before .args .size) _ (c .lua-integer .result) (c .lua-integer .ensures l (c .before .before .before .args .size) (pattern-size (c .before .before .before .args .kind) LuaInteger (c .before .before .before .args .size) (c .before .before .before .pre .1) (c .before .enum-told5 .given .1) tt)) (c .before .enum-told5 .given .1)
 
 returns-6 : tie.Need-returns-6
-returns-6 c = λ l. of-kind (c .before .before .before .args .size) _ (of-size LuaUnsigned 8 (c .before .before .before .args .size) _ (c .lua-unsigned .ensures l) (lua-size (c .before .before .before .args .kind) (c .before .before .before .args .size) (c .before .before .before .pre .1) (c .before .enum-told6 .given .1))) (c .before .enum-told6 .given .1)
+returns-6 c = λ l. of-kind (c .before .before .before .args .size) _ (c .lua-unsigned .result) (of-size LuaUnsigned 8 (c .before .before .before .args .size) _ (c .lua-unsigned .result) (c .lua-unsigned .ensures l) (lua-size (c .before .before .before .args .kind) (c .before .before .before .args .size) (c .before .before .before .pre .1) (c .before .enum-told6 .given .1))) (c .before .enum-told6 .given .1)
 
 returns-7 : tie.Need-returns-7
-returns-7 c = λ l. of-kind (c .before .before .before .args .size) _ (c .size-word .ensures l (c .before .before .before .args .size)) (c .before .enum-told7 .given .1)
+returns-7 c = λ l. of-kind (c .before .before .before .args .size) _ (c .size-word .result) (c .size-word .ensures l (c .before .before .before .args .size) (pattern-size (c .before .before .before .args .kind) Size (c .before .before .before .args .size) (c .before .before .before .pre .1) (c .before .enum-told7 .given .1) tt)) (c .before .enum-told7 .given .1)
 
 returns-8 : tie.Need-returns-8
-returns-8 c = λ l. of-kind (c .before .before .before .args .size) _ (c .single .ensures l (c .before .before .before .args .size)) (c .before .enum-told8 .given .1)
+returns-8 c = λ l. of-kind (c .before .before .before .args .size) _ (c .single .result) (c .single .ensures l (c .before .before .before .args .size) (pattern-size (c .before .before .before .args .kind) Single (c .before .before .before .args .size) (c .before .before .before .pre .1) (c .before .enum-told8 .given .1) tt)) (c .before .enum-told8 .given .1)
 
 returns-9 : tie.Need-returns-9
-returns-9 c = λ l. of-kind (c .before .before .before .args .size) _ (c .double .ensures l (c .before .before .before .args .size)) (c .before .enum-told9 .given .1)
+returns-9 c = λ l. of-kind (c .before .before .before .args .size) _ (c .double .result) (c .double .ensures l (c .before .before .before .args .size) (pattern-size (c .before .before .before .args .kind) Double (c .before .before .before .args .size) (c .before .before .before .pre .1) (c .before .enum-told9 .given .1) tt)) (c .before .enum-told9 .given .1)
 
 pub word-of-spec : {M : Type 1} → statement M
 word-of-spec =

@@ -5,9 +5,9 @@ use native.Mathlib.Omega.{arith}
 use mathlib.Core.Logic.{⊎-elim}
 use lib.ListN.{length, take, drop}
 use Rattle.definition.specs.Fields.{hasZero}
-use Rattle.plan.proofs.Contents.{more-zero, more-other}
-use Rattle.plan.proofs.content.has_zero.Statement.{statement}
-use Rattle.plan.proofs.content.has_zero.Tie as tie
+use Rattle.plan.proofs.Texts.{more-zero, more-other}
+use Rattle.plan.proofs.text.has_zero.Statement.{statement}
+use Rattle.plan.proofs.text.has_zero.Tie as tie
 
 abbrev Inv-loop : tie.InvT-loop
 Inv-loop list start n found₀ i₀ found i = (i ≤ n) × (start + n ≤ length list) × (found ≡ hasZero (take i (drop start list)))

@@ -1,0 +1,187 @@
+-- The bytes of a text option are what the definition encodes, and without a text there are 11 and 12.
+use Prim.Native.Nat.{ℕ, zero, suc, _+_, _-_, _^_, _≤_, _<_}
+use native.Mathlib.Omega.{arith}
+use native.Mathlib.Nat.{add-assoc}
+use native.Mathlib.Numerals.{add-one}
+use mathlib.Core.Path.{_≡_, refl, sym, ap, _∙_, subst}
+use mathlib.Core.Bool.{Bool, true, false, _&&_, _||_, cond, or-true}
+use mathlib.Core.List.{List, [], _∷_, _++_, append-nil}
+use mathlib.Core.Logic.{⊎-elim}
+use mathlib.Core.Option.{none, some}
+use lib.Dec.{T, leb, ltb, eqb}
+use lib.ListN.{length, take, drop, getD, replicate, length-append, length-drop, length-replicate}
+use lib.Seq.{length-take-le, take-suc, getD-drop}
+use types.Run.{OneOf}
+use denote.Enum.Declared.{tagOf}
+use borrow.Author.Tests.{leb-true, leb-false, le-leb, lt-leb, lt-ltb, le-ltb, eq-eqb, ne-eqb}
+use Rattle.definition.specs.Answers.{Checked, refused, accepted, _>>=_, orElse}
+use Rattle.definition.specs.Bytes.{little, laid}
+use Rattle.definition.specs.Ops.{within16}
+use Rattle.definition.specs.Values as definition
+use Rattle.definition.specs.Values.{integer, float, text, other, asBytes}
+use Rattle.definition.specs.Lists.{values}
+use Rattle.definition.specs.Fields.{encode, hasZero}
+use Rattle.definition.specs.declared.Field.{Field}
+use Rattle.definition.specs.declared.Field.the-variants as Field
+use Rattle.definition.proofs.Answers.{never, same}
+use Rattle.definition.proofs.Bytes.{pow-le, length-laid, length-part}
+use Rattle.definition.proofs.Numbers.{within-from-1}
+use Rattle.values.specs.Meaning.{meaning, Inside, fieldAt, FieldRead}
+use Rattle.values.specs.declared.Field.the-variants as Found
+use Rattle.values.specs.declared.Value.{Value}
+use Rattle.values.specs.declared.Value.the-variants as Value
+use Rattle.values.proofs.Fields.{takes-none, takes-first}
+use Rattle.values.proofs.Value.{the-type}
+use Rattle.plan.specs.Texts.{firstText, TextFound, TextOf, TextRead}
+use Rattle.plan.specs.Plans.{textBytes}
+use Rattle.plan.specs.declared.text.Text.{Text}
+use Rattle.plan.specs.declared.text.Text.the-variants as Text
+
+-- ---- which value is a text
+
+text-tag : OneOf (0 ∷ 1 ∷ 2 ∷ 4 ∷ []) 3 → ⊥
+text-tag h = ⊎-elim (λ e. omega arith) (λ h. ⊎-elim (λ e. omega arith) (λ h. ⊎-elim (λ e. omega arith) (λ e. omega arith) h) h) h
+
+-- where a `let .. else` finds no text
+pub no-bytes : (v : Value) → OneOf (0 ∷ 1 ∷ 2 ∷ 4 ∷ []) (tagOf the-type v) → (l : List ℕ) → asBytes (meaning l v) ≡ none
+no-bytes (Value.Integer z) h l = refl
+no-bytes (Value.Float x) h l = refl
+no-bytes (Value.NotANumber b) h l = refl
+no-bytes (Value.Text start n) h l = absurd (text-tag h)
+no-bytes Value.Other h l = refl
+
+-- ---- the text at an offset
+module _ (l : List ℕ) (at : ℕ) where
+  pub text-none : FieldRead l at Found.End → TextRead l at (Text.Refused 11)
+  text-none h vs known = ap firstText (takes-none l at vs known (h .says))
+
+  pub text-found : (v : Value) (next : ℕ) (r : Text) → FieldRead l at (Found.Found v next) → TextOf v next r → TextRead l at r
+  text-found v next (Text.Refused k) h (e, none-is) = λ vs known.
+      let t = takes-first l at vs known (meaning l v) next (h .says) in
+      rw (t .is, none-is l, e)
+  text-found v next (Text.At start n m) h (e, same-next) =
+      let inside : Inside l (Value.Text start n) = subst (Inside l) e (h .sound .inside) in
+      record {
+        within = inside .0;
+        short = inside .1;
+        found = λ vs known.
+          let t = takes-first l at vs known (meaning l v) next (h .says) in
+          record {
+            rest = t .others;
+            is = t .is ∙ ap (λ (x : Value). meaning l x ∷ t .others) e;
+            list = ap (λ (x : ℕ). values (drop x l)) same-next ∙ t .left;
+          };
+      }
+
+-- ---- the bytes of a text
+module _ (o : Bool) (l : List ℕ) (start n : ℕ) (within : start + n ≤ length l) where
+  abbrev part : List ℕ
+  part = take n (drop start l)
+
+  size : length (take n (drop start l)) ≡ n
+  size = length-take-le n (drop start l) (omega (arith, length-drop start l))
+
+  no-prefix : (v b : ℕ) → laid o 0 v b ≡ []
+  unfolding laid little
+  no-prefix v b = go o
+    where
+      go : (t : Bool) → laid t 0 v b ≡ []
+      go false = refl
+      go true = refl
+
+  pub text-length : (k zeros : ℕ) → length (textBytes o l k start n zeros) ≡ k + n + zeros
+  text-length k zeros =
+      let z : List ℕ = replicate zeros 0 in
+      length-append (laid o k n 0) (part ++ z) ∙ ap (λ (x : ℕ). x + length (part ++ z)) (length-laid o k n 0)
+      ∙ ap (λ (x : ℕ). k + x) (length-append part z ∙ ap (λ (x : ℕ). x + length z) size ∙ ap (λ (x : ℕ). n + x) (length-replicate zeros 0))
+      ∙ sym (add-assoc k n zeros)
+
+  pub chars-long : (m : ℕ) → m < n → encode o (Field.Chars m) (text part) ≡ refused 15
+  unfolding encode
+  chars-long m h = rw (size, lt-leb n m h)
+
+  pub chars-bytes : (m : ℕ) → n ≤ m → encode o (Field.Chars m) (text part) ≡ accepted (textBytes o l 0 start n (m - n))
+  unfolding encode
+  chars-bytes m h = rw (size, le-leb n m h, no-prefix n 0)
+
+  pub zero-ended-zero : hasZero part ≡ true → encode o Field.ZeroEnded (text part) ≡ refused 14
+  unfolding encode
+  zero-ended-zero h = rw h
+
+  pub zero-ended-bytes : hasZero part ≡ false → encode o Field.ZeroEnded (text part) ≡ accepted (textBytes o l 0 start n 1)
+  unfolding encode
+  zero-ended-bytes h = rw (h, no-prefix n 0)
+
+  pub counted-long : (m : ℕ) → ltb n (256 ^ m) ≡ false → encode o (Field.Counted m) (text part) ≡ refused 15
+  unfolding encode
+  counted-long m h = rw (size, h)
+
+  pub counted-bytes : (m : ℕ) → ltb n (256 ^ m) ≡ true → encode o (Field.Counted m) (text part) ≡ accepted (textBytes o l m start n 0)
+  unfolding encode
+  counted-bytes m h = rw (size, h, append-nil part)
+
+pub within-to-16 : (n : ℕ) → T (within16 n) → n ≤ 16
+within-to-16 n h = go (leb 1 n) (leb n 16) refl h
+  where
+    go : (t u : Bool) → leb n 16 ≡ u → T (t && u) → n ≤ 16
+    go true true e h = leb-true n 16 e
+    go true false e h = absurd h
+    go false u e h = absurd h
+
+-- the length of a text of a list fits all sizes but one byte
+pub count-one : (m n : ℕ) → m ≡ 1 → leb n 255 ≡ ltb n (256 ^ m)
+count-one m n e = rw e (go (leb n 255) refl)
+  where
+    go : (t : Bool) → leb n 255 ≡ t → t ≡ ltb n 256
+    go true h = sym (lt-ltb n 256 (omega (arith, leb-true n 255 h)))
+    go false h = sym (le-ltb n 256 (leb-false n 255 h))
+
+pub count-more : (m n : ℕ) → T (within16 m) → n ≤ 65535 → (m ≡ 1 → ⊥) → true ≡ ltb n (256 ^ m)
+count-more m n w h other-size = sym (lt-ltb n (256 ^ m) (omega (arith, pow-le 2 m (two m (within-from-1 m w) other-size))))
+  where
+    two : (m : ℕ) → 1 ≤ m → (m ≡ 1 → ⊥) → 2 ≤ m
+    two zero l h = omega arith
+    two (suc zero) l h = absurd (h refl)
+    two (suc (suc m)) l h = omega arith
+
+-- ---- no text
+abbrev pub TextField : Field → Type 0
+TextField (Field.Number k n) = ⊥
+TextField (Field.Chars n) = Unit {0}
+TextField Field.ZeroEnded = Unit {0}
+TextField (Field.Counted n) = Unit {0}
+
+pub no-text : (o : Bool) (f : Field) (v : definition.Value) (k : ℕ) → TextField f → orElse (asBytes v) (refused 12) ≡ refused k → encode o f v ≡ refused k
+unfolding encode
+no-text o (Field.Number j n) v k t e = absurd t
+no-text o (Field.Chars n) v k t e = rw e
+no-text o Field.ZeroEnded v k t e = rw e
+no-text o (Field.Counted n) v k t e = rw e
+
+-- ---- zeros among the bytes passed
+
+zero-last : (s : List ℕ) (b : ℕ) → hasZero (s ++ (b ∷ [])) ≡ (hasZero s || eqb b 0)
+zero-last [] b = go (eqb b 0)
+  where
+    go : (t : Bool) → cond t true false ≡ t
+    go true = refl
+    go false = refl
+zero-last (c ∷ s) b = go (eqb c 0) (zero-last s b)
+  where
+    go : (t : Bool) → hasZero (s ++ (b ∷ [])) ≡ (hasZero s || eqb b 0) → cond t true (hasZero (s ++ (b ∷ []))) ≡ (cond t true (hasZero s) || eqb b 0)
+    go true e = refl
+    go false e = e
+
+module _ (l : List ℕ) (start n i : ℕ) (within : start + n ≤ length l) (h : i < n) where
+  one-more : take (i + 1) (drop start l) ≡ take i (drop start l) ++ (getD l (start + i) 0 ∷ [])
+  one-more = ap (λ (k : ℕ). take k (drop start l)) (add-one i) ∙ take-suc (drop start l) i 0 (omega (arith, length-drop start l)) ∙ ap (λ (b : ℕ). take i (drop start l) ++ (b ∷ [])) (getD-drop start l i 0)
+
+  pub more-zero : getD l (start + i) 0 ≡ 0 → hasZero (take (i + 1) (drop start l)) ≡ true
+  more-zero e = rw (one-more, zero-last (take i (drop start l)) (getD l (start + i) 0), eq-eqb (getD l (start + i) 0) 0 e) (or-true (hasZero (take i (drop start l))))
+
+  pub more-other : (getD l (start + i) 0 ≡ 0 → ⊥) → hasZero (take (i + 1) (drop start l)) ≡ hasZero (take i (drop start l))
+  more-other e = rw (one-more, zero-last (take i (drop start l)) (getD l (start + i) 0), ne-eqb (getD l (start + i) 0) 0 e) (or-false (hasZero (take i (drop start l))))
+    where
+      or-false : (t : Bool) → (t || false) ≡ t
+      or-false true = refl
+      or-false false = refl
