@@ -1,4 +1,5 @@
-// Alignment and length: the zeros before an item, and the state after it.
+// The state: what a setting makes of it, the zeros before an item, and the state after it.
+use definition::Setting;
 use definition::State;
 ghost use mathlib.Core.Path.{_≡_};
 ghost use Prim.Native.Nat.{_+_, _-_, _^_, _≤_, min};
@@ -23,6 +24,24 @@ pub enum Next {
 
 // The greatest length.
 pub const MAX_LENGTH: u64 = 0x7fff_ffff_ffff_ffff;
+
+// The state after a setting.
+pub fn set(s: State, x: Setting) -> State
+    ensures { λ r. ⌜ r ≡ states.set x s ⌝ }
+{
+    match x {
+        Setting::Order(big) => State {
+            big,
+            limit: s.limit,
+            length: s.length,
+        },
+        Setting::Limit(limit) => State {
+            big: s.big,
+            limit,
+            length: s.length,
+        },
+    }
+}
 
 fn lesser(a: u64, b: u64) -> u64
     ensures { λ r. ⌜ r ≡ min a b ⌝ }

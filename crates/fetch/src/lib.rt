@@ -9,14 +9,13 @@ use crate::decode::text;
 use crate::decode::zero_ended;
 use align::Amount;
 use align::padding;
+use align::set;
 use definition::Field;
 use definition::Kind;
 use definition::Op;
-use definition::Setting;
 use definition::State;
 ghost use mathlib.Core.Path.{_≡_};
 ghost use lib.Dec.{T};
-ghost use Rattle.definition.specs.States as states;
 ghost use Rattle.definition.specs.declared.Field.the-variants as fields;
 ghost use Rattle.definition.specs.declared.Op.the-variants as ops;
 ghost use Rattle.definition.proofs.Numbers.{validSize};
@@ -34,24 +33,6 @@ pub enum Skipped {
 pub enum Fetched {
     Refused(u8),
     Read(State, Reading),
-}
-
-// What a setting makes of the state.
-fn set(x: Setting, s: State) -> State
-    ensures { λ r. ⌜ r ≡ states.set x s ⌝ }
-{
-    match x {
-        Setting::Order(big) => State {
-            big: big,
-            limit: s.limit,
-            length: s.length,
-        },
-        Setting::Limit(n) => State {
-            big: s.big,
-            limit: n,
-            length: s.length,
-        },
-    }
 }
 
 // Past an alignment by n, and k bytes: 6, 17.
@@ -129,7 +110,7 @@ pub fn read_op(data: &[u8], s: State, op: Op) -> Fetched
     match op {
         Op::Put(f) => read_field(data, s, f),
         Op::Blank => Fetched::Read(s, Reading::Nothing),
-        Op::Set(x) => Fetched::Read(set(x, s), Reading::Nothing),
+        Op::Set(x) => Fetched::Read(set(s, x), Reading::Nothing),
         Op::Pad(n, k) => match read_pad(data, s, n, k) {
             Skipped::Refused(number) => Fetched::Refused(number),
             Skipped::To(t) => Fetched::Read(t, Reading::Nothing),

@@ -1,11 +1,11 @@
 // The list bound: how long the value list of an accepted reading can be.
 use crate::size::Measured;
-use crate::size::set;
 use align::Amount;
 use align::MAX_LENGTH;
 use align::Next as Stepped;
 use align::alignment;
 use align::longer;
+use align::set;
 use definition::Field;
 use definition::Op;
 use definition::State;

@@ -3,15 +3,14 @@ use align::Amount;
 use align::Next as Stepped;
 use align::longer;
 use align::padding;
+use align::set;
 use definition::Field;
 use definition::Op;
-use definition::Setting;
 use definition::State;
 use format::cursor::Cursor;
 use format::cursor::Next;
 use format::options::table;
 ghost use mathlib.Core.Path.{_≡_};
-ghost use Rattle.definition.specs.States as states;
 ghost use Rattle.definition.specs.Measuring.{measurePad, measureOp, measure};
 ghost use Rattle.definition.specs.Calls.{stringPacksize};
 ghost use Rattle.align.specs.Amounts.{stateOf};
@@ -23,24 +22,6 @@ ghost use Rattle.measure.specs.Measured.{measuredOf};
 pub enum Measured {
     Refused(u8),
     Size(u64),
-}
-
-// The state after a setting.
-pub fn set(s: State, x: Setting) -> State
-    ensures { λ r. ⌜ r ≡ states.set x s ⌝ }
-{
-    match x {
-        Setting::Order(big) => State {
-            big,
-            limit: s.limit,
-            length: s.length,
-        },
-        Setting::Limit(limit) => State {
-            big: s.big,
-            limit,
-            length: s.length,
-        },
-    }
 }
 
 // The state after an alignment and n bytes. Mostly there is nothing to fill up.

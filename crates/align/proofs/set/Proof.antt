@@ -1,7 +1,7 @@
 -- Each setting changes its own part of the state.
 use borrow.Author.Needs.{needs}
-use Rattle.measure.proofs.size.set.Statement.{statement}
-use Rattle.measure.proofs.size.set.Tie as tie
+use Rattle.align.proofs.set.Statement.{statement}
+use Rattle.align.proofs.set.Tie as tie
 
 enum-known-x : tie.Need-enum-known-x
 enum-known-x c = search needs
