@@ -123,7 +123,7 @@ set-sound (Setting.Limit n) s ok h = both-true (isPower n) (atMost63 (s .length)
 longer-sound : (s : State) (n : ℕ) → Sound s → atMost63 n ≡ true → (isPower (s .limit) && atMost63 n) ≡ true
 longer-sound s n h w = both-true (isPower (s .limit)) (atMost63 n) (both-parts (isPower (s .limit)) (atMost63 (s .length)) h .0) w
 
-step-sound : (r : Place Value) (o : Op) (t : Place Value) (a : Output) → Step r o t a → T (validOp o) → Sound (r .state) → Sound (t .state)
+pub step-sound : (r : Place Value) (o : Op) (t : Place Value) (a : Output) → Step r o t a → T (validOp o) → Sound (r .state) → Sound (t .state)
 step-sound r o t a blank ok h = h
 step-sound r o t a (sets x) ok h = set-sound x (r .state) ok h
 step-sound r o t a (pads-out n k p e w) ok h = longer-sound (r .state) (r .state .length + (p + k)) h w

@@ -1,10 +1,12 @@
 -- The calls of writing: 21 first of all, the first pass, 22, and the bytes that the second pass puts.
-use Prim.Native.Nat.{ℕ, _≤_, _<_}
+use Prim.Native.Nat.{ℕ, _+_, _≤_, _<_}
 use native.Mathlib.Omega.{arith}
 use mathlib.Core.Path.{_≡_, refl, sym, ap, _∙_, subst}
 use mathlib.Core.Bool.{Bool, true, false, _&&_, not}
-use mathlib.Core.List.{List, _++_}
+use mathlib.Core.List.{List, [], _++_}
+use native.Mathlib.Nat.{zero-add}
 use lib.ListN.{length, drop}
+use lib.Seq.{paste}
 use borrow.Author.Tests.{le-leb, lt-leb}
 use Rattle.definition.specs.Answers.{Checked, refused, accepted, _>>=_}
 use Rattle.definition.specs.Ops.{isPower}
@@ -21,12 +23,13 @@ use Rattle.definition.proofs.Cutting.{plain-is}
 use Rattle.values.specs.Meaning.{isAccepted}
 use Rattle.values.proofs.Lists.{refused-list}
 use Rattle.write.specs.Answers.{totalIs, continuedIs, packedIs}
-use Rattle.write.specs.Walks.{valuesOf, summed, Accepted}
-use Rattle.write.specs.declared.check.Total.{Total}
-use Rattle.write.specs.declared.check.Total.the-variants as Total
+use Rattle.write.specs.Walks.{valuesOf, summed, FitsAt, putAt}
+use Rattle.write.specs.declared.pass.Total.{Total}
+use Rattle.write.specs.declared.pass.Total.the-variants as Total
 use Rattle.write.specs.declared.Packed.{Packed}
 use Rattle.write.specs.declared.Packed.the-variants as Packed
-use Rattle.write.proofs.Walking.{list-known}
+use Rattle.write.proofs.Stepping.{list-known}
+use Rattle.write.proofs.Pasting.{paste-front}
 
 module _ (s : State) (f l b : List ℕ) where
   pub unsound : (isPower (s .limit) && atMost63 (s .length)) ≡ false → call (refused 21) b ≡ packContinued s f l b
@@ -67,8 +70,8 @@ module _ (s : State) (f l b : List ℕ) where
         size : (m : Made a) → length (m .made .cells) ≡ a .written
         size m = ap (λ (x : Continued). x .written) (m .totals)
 
-        pub fits : a .written ≤ length b → Accepted f l s (length b)
-        fits h = let m = made-of a e in record { end = m .end; made = m .made; is = m .is; room = subst (λ (n : ℕ). n ≤ length b) (sym (size m)) h }
+        pub fits : a .written ≤ length b → FitsAt (length b) 0 (write s (valuesOf l) f)
+        fits h = let m = made-of a e in subst (FitsAt (length b) 0) (sym (m .is)) (omega (arith, size m))
 
         accepted-is : (m : Made a) → packContinued s f l b ≡ into b (accepted (continuedOf (m .end, m .made), recordOf (m .made)))
         accepted-is m = call-is ∙ ap (λ (c : Checked (Place Value × Output)). into b (c >>= λ r. accepted (continuedOf r, recordOf (r .1)))) (m .is)
@@ -79,12 +82,14 @@ module _ (s : State) (f l b : List ℕ) where
             let n : length b < length (recordOf (m .made)) = subst (λ (x : ℕ). length b < x) (sym (length-record (m .made) ∙ size m)) h in
             sym (accepted-is m ∙ rw (lt-leb (length (recordOf (m .made))) (length b) n))
 
-        pub filled-call : (d : List ℕ) → a .written ≤ length b → ((m : Accepted f l s (length b)) → d ≡ recordOf (m .made) ++ drop (length (m .made .cells)) b) → call (accepted a) d ≡ packContinued s f l b
+        pub filled-call : (d : List ℕ) → a .written ≤ length b → d ≡ putAt b 0 (write s (valuesOf l) f) → call (accepted a) d ≡ packContinued s f l b
         filled-call d h g =
             let m = made-of a e in
             let n : length (recordOf (m .made)) ≤ length b = subst (λ (x : ℕ). x ≤ length b) (sym (length-record (m .made) ∙ size m)) h in
-            let bytes : d ≡ recordOf (m .made) ++ drop (length (recordOf (m .made))) b = g (record { end = m .end; made = m .made; is = m .is; room = subst (λ (x : ℕ). x ≤ length b) (sym (size m)) h }) ∙ ap (λ (x : ℕ). recordOf (m .made) ++ drop x b) (sym (length-record (m .made))) in
-            sym (accepted-is m ∙ rw (le-leb (length (recordOf (m .made))) (length b) n) (ap (λ (x : Continued). call (accepted x) (recordOf (m .made) ++ drop (length (recordOf (m .made))) b)) (m .totals) ∙ ap (call (accepted a)) (sym bytes)))
+            let front : d ≡ recordOf (m .made) ++ drop (length (recordOf (m .made))) b =
+            g ∙ ap (putAt b 0) (m .is) ∙ ap (paste b 0 (recordOf (m .made))) (sym (length-record (m .made)))
+            ∙ paste-front b [] 0 refl (recordOf (m .made)) (length (recordOf (m .made))) refl ∙ ap (λ (k : ℕ). recordOf (m .made) ++ drop k b) (zero-add (length (recordOf (m .made)))) in
+            sym (accepted-is m ∙ rw (le-leb (length (recordOf (m .made))) (length b) n) (ap (λ (x : Continued). call (accepted x) (recordOf (m .made) ++ drop (length (recordOf (m .made))) b)) (m .totals) ∙ ap (call (accepted a)) (sym front)))
 
 -- ---- plain writing
 pub plain-refused : (f l b d : List ℕ) (r : Total) (k : ℕ) → r ≡ Total.Refused k → continuedIs r d ≡ packContinued start f l b → call (refused k) d ≡ stringPack f l b
@@ -92,15 +97,6 @@ plain-refused f l b d r k e h = ap (λ (c : Call Continued). call (c .answer >>=
 
 pub plain-length : (f l b d : List ℕ) (r : Total) (c : Continued) → r ≡ Total.Of c → continuedIs r d ≡ packContinued start f l b → call (accepted (c .written)) d ≡ stringPack f l b
 plain-length f l b d r c e h = ap (λ (x : Call Continued). call (x .answer >>= λ a. accepted (a .written)) (x .buffer)) (sym (ap (λ (x : Total). continuedIs x d) e) ∙ h) ∙ sym (plain-is f l b)
-
--- ---- a test that is negated
-pub was-false : (t : Bool) → not t ≡ true → t ≡ false
-was-false true e = sym e
-was-false false e = refl
-
-pub was-true : (t : Bool) → not t ≡ false → t ≡ true
-was-true true e = refl
-was-true false e = sym e
 
 pub total-refused : (s : State) (f l b : List ℕ) (sound : Sound s) (listed : isAccepted (values l) ≡ true) (r : Total) (k : ℕ) → r ≡ Total.Refused k → totalIs r ≡ summed (write s (valuesOf l) f) → continuedIs r b ≡ packContinued s f l b
 total-refused s f l b sound listed r k e h = ap (λ (x : Total). continuedIs x b) e ∙ refused-call s f l b sound listed k (sym (ap totalIs e) ∙ h)

@@ -1,4 +1,4 @@
 pub mod Pasting
+pub mod Stepping
 pub mod Walking
-pub mod Filling
 pub mod Calls

@@ -1,4 +1,4 @@
--- Laws of stores into the record, and of the parts of a content.
+-- Laws of stores into the record.
 use Prim.Native.Nat.{ℕ, _+_, _≤_}
 use native.Mathlib.Omega.{arith}
 use native.Mathlib.Nat.{add-assoc, le-of-eq}
@@ -9,11 +9,7 @@ use lib.ListN.{length, take, drop, replicate, length-append, length-replicate}
 use lib.Seq.{paste, take-at, drop-at, drop-drop, take-all}
 use Rattle.definition.specs.Bytes.{laid}
 use Rattle.coder.proofs.Pasting.{paste-on}
-use Rattle.plan.proofs.Plans.{content-length}
-use Rattle.plan.specs.Contents.{fillOf, contentBytes, sizeOf, Within}
-use Rattle.plan.specs.declared.word.Word.{Word}
-use Rattle.plan.specs.declared.content.Content.{Content}
-use Rattle.plan.specs.declared.content.Content.the-variants as Content
+use Rattle.definition.proofs.Bytes.{length-laid}
 
 whole : (m : ℕ) (y : List ℕ) → length y ≡ m → take m y ≡ y
 whole m y e = take-all m y (le-of-eq e)
@@ -23,22 +19,6 @@ pub paste-front : (d x : List ℕ) (n : ℕ) → length x ≡ n → (y : List �
 paste-front d x n e y m f =
     let rest : drop (n + m) (x ++ drop n d) ≡ drop (n + m) d = sym (drop-drop m n (x ++ drop n d)) ∙ ap (drop m) (drop-at x (drop n d) n e) ∙ drop-drop m n d in
     rw (take-at x (drop n d) n e, whole m y f, rest)
-
--- ---- a content's parts
-pub number-bytes : (o : Bool) (l : List ℕ) (c : Content) (n : ℕ) (w : Word) → c ≡ Content.Number n w → laid o n (w .bits) (fillOf w) ≡ contentBytes o l c
-number-bytes o l c n w e = sym (ap (contentBytes o l) e)
-
-pub text-bytes : (o : Bool) (l : List ℕ) (c : Content) (n start len zeros : ℕ) → c ≡ Content.Text n start len zeros → laid o n len 0 ++ (take len (drop start l) ++ replicate zeros 0) ≡ contentBytes o l c
-text-bytes o l c n start len zeros e = sym (ap (contentBytes o l) e)
-
-pub number-size : (c : Content) (n : ℕ) (w : Word) → c ≡ Content.Number n w → n ≡ sizeOf c
-number-size c n w e = sym (ap sizeOf e)
-
-pub text-size : (c : Content) (n start len zeros : ℕ) → c ≡ Content.Text n start len zeros → n + len + zeros ≡ sizeOf c
-text-size c n start len zeros e = sym (ap sizeOf e)
-
-pub text-within : (l : List ℕ) (c : Content) (n start len zeros : ℕ) → c ≡ Content.Text n start len zeros → Within l c → start + len ≤ length l
-text-within l c n start len zeros e h = subst (Within l) e h
 
 -- ---- stores one after the other
 pasted : (d e f a b : List ℕ) (at m n : ℕ) → length a ≡ m → length b ≡ n → at + m + n ≤ length d → e ≡ paste d at a m → f ≡ paste e (at + m) b n → f ≡ paste d at (a ++ b) (m + n)
@@ -51,9 +31,5 @@ pasted-three d e f g x y z at n m k lx ly lz h p q r =
     let lxy : length (x ++ y) ≡ n + m = length-append x y ∙ ap (λ (i : ℕ). i + length y) lx ∙ ap (λ (i : ℕ). n + i) ly in
     pasted d f g (x ++ y) z at (n + m) k lxy lz (omega arith) two (r ∙ ap (λ (i : ℕ). paste f i z k) (add-assoc at n m)) ∙ ap (λ (w : List ℕ). paste d at w (n + m + k)) (append-assoc x y z)
 
-pub same-store : (d g x y : List ℕ) (at n m : ℕ) → x ≡ y → n ≡ m → g ≡ paste d at x n → g ≡ paste d at y m
-same-store d g x y at n m e f h = h ∙ ap (λ (w : List ℕ). paste d at w n) e ∙ ap (λ (i : ℕ). paste d at y i) f
-
-pub padded-store : (d e g : List ℕ) (o : Bool) (l : List ℕ) (c : Content) (at n : ℕ) → Within l c → at + (n + sizeOf c) ≤ length d → e ≡ paste d at (replicate n 0) n → g ≡ paste e (at + n) (contentBytes o l c) (sizeOf c)
-    → g ≡ paste d at (replicate n 0 ++ contentBytes o l c) (n + sizeOf c)
-padded-store d e g o l c at n w h p q = pasted d e g (replicate n 0) (contentBytes o l c) at n (sizeOf c) (length-replicate n 0) (content-length o l c w) (omega arith) p q
+pub padded-store : (d e g : List ℕ) (o : Bool) (at n m w b f : ℕ) → b ≡ f → at + (n + m) ≤ length d → e ≡ paste d at (replicate n 0) n → g ≡ paste e (at + n) (laid o m w b) m → g ≡ paste d at (replicate n 0 ++ laid o m w f) (n + m)
+padded-store d e g o at n m w b f i h p q = pasted d e g (replicate n 0) (laid o m w b) at n m (length-replicate n 0) (length-laid o m w b) (omega arith) p q ∙ ap (λ (x : ℕ). paste d at (replicate n 0 ++ laid o m w x) (n + m)) i

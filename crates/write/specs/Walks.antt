@@ -1,6 +1,7 @@
--- How far a pass over a format has come.
-use Prim.Native.Nat.{ℕ, _+_, _≤_}
+-- How far a pass over a format has come, and what it has put.
+use Prim.Native.Nat.{ℕ, _+_, _-_, _≤_}
 use mathlib.Core.Path.{_≡_}
+use mathlib.Core.Bool.{Bool, true, cond}
 use mathlib.Core.List.{List, [], _++_}
 use lib.ListN.{length, drop}
 use lib.Seq.{paste}
@@ -8,15 +9,17 @@ use Rattle.definition.specs.Answers.{Checked, refused, accepted, _>>=_, after}
 use Rattle.definition.specs.Items.{items}
 use Rattle.definition.specs.Values.{Value}
 use Rattle.definition.specs.Lists.{values}
+use Rattle.definition.specs.States.{further}
 use Rattle.definition.specs.Writing.{Output, nothing, _⊕_, Place, place, writeOp, writeItem, writing, write}
 use Rattle.definition.specs.Calls.{recordOf, continuedOf}
 use Rattle.definition.specs.declared.Continued.{Continued}
 use Rattle.definition.specs.declared.State.{State}
 use Rattle.definition.specs.declared.Op.{Op}
-use Rattle.write.specs.declared.check.Progress.{Progress}
-use Rattle.write.specs.declared.fill.Placed.{Placed}
-use Rattle.write.specs.declared.check.Step.{Step}
-use Rattle.write.specs.declared.check.Step.the-variants.{Refused, To}
+use Rattle.definition.proofs.Calls.{Sound}
+use Rattle.values.specs.Meaning.{isAccepted}
+use Rattle.write.specs.declared.pass.Progress.{Progress}
+use Rattle.write.specs.declared.pass.Step.{Step}
+use Rattle.write.specs.declared.pass.Step.the-variants.{Refused, Skip, To}
 
 -- the values of a list, which is well formed
 abbrev pub listed : Checked (List Value) → List Value
@@ -30,66 +33,59 @@ valuesOf l = listed (values l)
 abbrev pub summed : Checked (Place Value × Output) → Checked Continued
 summed w = w >>= λ r. accepted (continuedOf r)
 
+-- ---- what a run puts into a buffer
+
+-- a run is accepted, and its bytes fit into n bytes from w on
+abbrev pub FitsAt : ℕ → ℕ → Checked (Place Value × Output) → Type 0
+FitsAt n w (refused k) = ⊥
+FitsAt n w (accepted r) = w + length (r .1 .cells) ≤ n
+
+-- the buffer d with the bytes of a run from w on
+abbrev pub putAt : List ℕ → ℕ → Checked (Place Value × Output) → List ℕ
+putAt d w (refused k) = d
+putAt d w (accepted r) = paste d w (recordOf (r .1)) (length (r .1 .cells))
+
 -- ---- one item
 
--- an item took the pass from p to q, with the values vs left
-pub record Moved (l : List ℕ) (p : Progress) (vs : List Value) (op : Op) (q : Progress) : Type 0 where
+abbrev pub passed : Progress → State → Progress
+passed p s = record { state = s; at = p .at; used = p .used; items = p .items + 1 }
+
+abbrev pub taken : Progress → ℕ → ℕ → Progress
+taken p n at = record { state = further (p .state) n; at = at; used = p .used + 1; items = p .items + 1 }
+
+abbrev pub totalsOf : Progress → ℕ → Continued
+totalsOf p base = record { next = p .state; written = p .state .length - base; used = p .used; items = p .items }
+
+-- the item op, written where the pass has come to p
+abbrev pub written : List ℕ → Progress → Op → Checked (Place Value × Output)
+written l p op = writeOp (place (p .state) (valuesOf (drop (p .at) l))) op
+
+-- an item took the pass from p to q
+pub record Moved (l : List ℕ) (p : Progress) (op : Op) (q : Progress) : Type 0 where
   pub out : Output
-  pub rest : List Value
-  pub is : writeOp (place (p .state) vs) op ≡ accepted (place (q .state) rest, out)
-  pub list : values (drop (q .at) l) ≡ accepted rest
+  pub is : written l p op ≡ accepted (place (q .state) (valuesOf (drop (q .at) l)), out)
+  pub known : isAccepted (values (drop (q .at) l)) ≡ true
   pub used : q .used ≡ p .used + length (out .took)
   pub items : q .items ≡ p .items + out .items
   pub few : (q .used ≤ p .used + 1) × (q .items ≤ p .items + 1)
 
-abbrev pub Stepped : List ℕ → Progress → List Value → Op → Step → Type 0
-Stepped l p vs op (Refused k) = writeOp (place (p .state) vs) op ≡ refused k
-Stepped l p vs op (To q) = Moved l p vs op q
+abbrev pub Stepped : List ℕ → Progress → Op → Step → Type 0
+Stepped l p op (Refused k) = written l p op ≡ refused k
+Stepped l p op Skip = Moved l p op p
+Stepped l p op (To q) = Moved l p op q
 
 -- ---- the items so far
 
--- From the state s, writing the format f with the list l has come to the place c of f, and to p: what is written is `out`, and what is left are the values from p's field on.
-pub record Walked (f l : List ℕ) (s : State) (c : ℕ) (p : Progress) : Type 0 where
+-- From the state s, writing the format f with the list l has come to the place c of f, and to p: what is written is `out`, and
+-- with `put` the buffer, which was d, is b.
+pub record Walked (f l : List ℕ) (s : State) (put : Bool) (d : List ℕ) (c : ℕ) (p : Progress) (b : List ℕ) : Type 0 where
   pub out : Output
-  pub left : List Value
-  pub list : values (drop (p .at) l) ≡ accepted left
-  pub run : write s (valuesOf l) f ≡ after writeItem nothing _⊕_ out (writing (place (p .state) left) (items (drop c f)))
+  pub known : isAccepted (values (drop (p .at) l)) ≡ true
+  pub sound : Sound (p .state)
+  pub run : write s (valuesOf l) f ≡ after writeItem nothing _⊕_ out (writing (place (p .state) (valuesOf (drop (p .at) l))) (items (drop c f)))
   pub length-is : p .state .length ≡ s .length + length (out .cells)
   pub used : p .used ≡ length (out .took)
   pub items-run : p .items ≡ out .items
   pub few : (p .used ≤ c) × (p .items ≤ c)
-
--- ---- the second pass: of a writing that is accepted
-
--- writing f with l from s is accepted, and the record fits into n bytes
-pub record Accepted (f l : List ℕ) (s : State) (n : ℕ) : Type 0 where
-  pub end : Place Value
-  pub made : Output
-  pub is : write s (valuesOf l) f ≡ accepted (end, made)
-  pub room : length (made .cells) ≤ n
-
--- the item op, written from s with the values of l from `at` on, is accepted, and fits into n bytes at w
-pub record Fits (l : List ℕ) (at : ℕ) (s : State) (op : Op) (w n : ℕ) : Type 0 where
-  pub vs : List Value
-  pub known : values (drop at l) ≡ accepted vs
-  pub end : Place Value
-  pub made : Output
-  pub is : writeOp (place s vs) op ≡ accepted (end, made)
-  pub room : w + length (made .cells) ≤ n
-
--- what putting the item leaves: its bytes at w, the state after it, and the list's next field
-pub record PutOf (l : List ℕ) (at : ℕ) (s : State) (op : Op) (w : ℕ) (d e : List ℕ) (r : Placed) (m : Fits l at s op w (length d)) : Type 0 where
-  pub bytes : e ≡ paste d w (recordOf (m .made)) (length (m .made .cells))
-  pub state : r .state ≡ m .end .state
-  pub list : values (drop (r .at) l) ≡ accepted (m .end .left)
-
--- The second pass has come to the place c and to the state t and the field at `at`: it has put the bytes of `out`, and those of `rest` are to come.
-pub record Filled (f l : List ℕ) (s : State) (made : Output) (end : Place Value) (d : List ℕ) (c : ℕ) (t : State) (at : ℕ) (b : List ℕ) : Type 0 where
-  pub out : Output
-  pub rest : Output
-  pub left : List Value
-  pub list : values (drop at l) ≡ accepted left
-  pub run : writing (place t left) (items (drop c f)) ≡ accepted (end, rest)
-  pub whole : made ≡ out ⊕ rest
-  pub length-is : t .length ≡ s .length + length (out .cells)
-  pub buffer : b ≡ recordOf out ++ drop (length (out .cells)) d
+  pub inside : c ≤ length f
+  pub buffer : b ≡ cond put (recordOf out ++ drop (length (out .cells)) d) d

@@ -1,25 +1,58 @@
-// Puts the bytes of an item into the record.
-use coder::writing::put;
+// Puts the bytes of an item into the record, where `put` asks for it.
+use coder::writing::put as put_integer;
 use coder::writing::put_copy;
 use coder::writing::put_zeros;
-use plan::content::Content;
-use plan::word::Word;
 ghost use mathlib.Core.Path.{_≡_};
-ghost use Prim.Native.Nat.{_+_, _≤_};
-ghost use lib.ListN.{length, take, drop, replicate};
-ghost use lib.Seq.{paste};
+ghost use mathlib.Core.Bool.{true, cond};
 ghost use mathlib.Core.List.{_++_};
+ghost use Prim.Native.Nat.{_+_, _≤_};
+ghost use lib.ListN.{length, replicate};
+ghost use lib.Seq.{paste};
 ghost use Rattle.definition.specs.Bytes.{laid};
-ghost use Rattle.plan.specs.Contents.{contentBytes, sizeOf, fillOf, Within};
+ghost use Rattle.plan.specs.Plans.{textBytes};
+ghost use Rattle.plan.specs.Words.{fillOf};
 
-fn fill(w: Word) -> u8
-    ensures { λ r. ⌜ r ≡ fillOf w ⌝ }
+// The byte above a word's eight.
+fn fill(word: u64) -> u8
+    ensures { λ r. ⌜ r ≡ fillOf word ⌝ }
 {
-    if w.negative { 255 } else { 0 }
+    if word < 0x8000_0000_0000_0000 { 0 } else { 255 }
+}
+
+// So many zeros.
+pub fn emit_zeros(put: bool, out: &mut [u8], at: usize, n: usize)
+    requires { ⌜ (put ≡ true → at + n ≤ length (now out)) ⌝ }
+    ensures { λ _. ⌜ now (out .exit) ≡ cond put (paste (now (out .entry)) at (replicate n 0) n) (now (out .entry)) ⌝ }
+{
+    if !put {
+        return;
+    }
+    put_zeros(out, at, n);
+}
+
+// Zeros, and a word in so many bytes after them.
+pub fn emit_number(
+    put: bool,
+    out: &mut [u8],
+    at: usize,
+    zeros: usize,
+    big: bool,
+    size: usize,
+    word: u64,
+)
+    requires { ⌜ (put ≡ true → at + (zeros + size) ≤ length (now out)) ⌝ }
+    ensures { λ _. ⌜ now (out .exit) ≡ cond put (paste (now (out .entry)) at (replicate zeros 0 ++ laid big size word (fillOf word)) (zeros + size)) (now (out .entry)) ⌝ }
+{
+    if !put {
+        return;
+    }
+    put_zeros(out, at, zeros);
+    put_integer(out, at + zeros, size, big, word, fill(word));
 }
 
 // A text of the list, with its length before it in size bytes, and zeros after it.
-fn put_text(
+pub fn emit_text(
+    put: bool,
     out: &mut [u8],
     at: usize,
     big: bool,
@@ -29,33 +62,13 @@ fn put_text(
     n: usize,
     zeros: usize,
 )
-    requires { ⌜ at + (size + n + zeros) ≤ length (now out) ⌝ ∗ ⌜ start + n ≤ length (now list) ⌝ }
-    ensures { λ _. ⌜ now (out .exit) ≡ paste (now (out .entry)) at (laid big size n 0 ++ (take n (drop start (now (list .entry))) ++ replicate zeros 0)) (size + n + zeros) ⌝ }
+    requires { ⌜ (put ≡ true → at + (size + n + zeros) ≤ length (now out)) ⌝ ∗ ⌜ start + n ≤ length (now list) ⌝ }
+    ensures { λ _. ⌜ now (out .exit) ≡ cond put (paste (now (out .entry)) at (textBytes big (now (list .entry)) size start n zeros) (size + n + zeros)) (now (out .entry)) ⌝ }
 {
-    put(out, at, size, big, n as u64, 0);
+    if !put {
+        return;
+    }
+    put_integer(out, at, size, big, n as u64, 0);
     put_copy(out, at + size, list, start, n);
     put_zeros(out, at + size + n, zeros);
-}
-
-// A content at `at`.
-fn put_content(out: &mut [u8], at: usize, big: bool, list: &[u8], c: Content)
-    requires { ⌜ at + sizeOf c ≤ length (now out) ⌝ ∗ ⌜ Within (now list) c ⌝ }
-    ensures { λ _. ⌜ now (out .exit) ≡ paste (now (out .entry)) at (contentBytes big (now (list .entry)) c) (sizeOf c) ⌝ }
-{
-    match c {
-        Content::Number(size, w) => put(out, at, size as usize, big, w.bits, fill(w)),
-        Content::Text(size, start, n, zeros) => {
-            put_text(out, at, big, list, size as usize, start, n, zeros as usize)
-        }
-    }
-}
-
-// Zeros, and a content after them.
-pub fn put_padded(out: &mut [u8], at: usize, zeros: u64, big: bool, list: &[u8], c: Content)
-    requires { ⌜ at + (zeros + sizeOf c) ≤ length (now out) ⌝ ∗ ⌜ Within (now list) c ⌝ }
-    ensures { λ _. ⌜ now (out .exit) ≡ paste (now (out .entry)) at (replicate zeros 0 ++ contentBytes big (now (list .entry)) c) (zeros + sizeOf c) ⌝ }
-{
-    let n = zeros as usize;
-    put_zeros(out, at, n);
-    put_content(out, at + n, big, list, c);
 }

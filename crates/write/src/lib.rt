@@ -1,11 +1,9 @@
 // Writing: the values of a list, by a format, into a lent buffer.
-pub mod check;
-pub mod emit;
-pub mod fill;
+mod emit;
+pub mod pass;
 
-use crate::check::Total;
-use crate::check::check;
-use crate::fill::fill;
+use crate::pass::Total;
+use crate::pass::pass;
 use align::is_sound;
 use definition::State;
 use format::options::OPTIONS;
@@ -25,14 +23,14 @@ pub fn pack_continued(state: State, format: &[u8], list: &[u8], out: &mut [u8]) 
         return Total::Refused(21);
     }
     let table = OPTIONS;
-    let total = check(&table, format, list, state);
+    let total = pass(&table, format, list, state, out, false);
     let Total::Of(c) = total else {
         return total;
     };
     if (out.len() as u64) < c.written {
         return Total::Refused(22);
     }
-    fill(&table, format, list, state, out);
+    pass(&table, format, list, state, out, true);
     Total::Of(c)
 }
 

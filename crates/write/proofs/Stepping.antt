@@ -1,0 +1,100 @@
+-- One item: where it takes the pass, and what it puts.
+use Prim.Native.Nat.{ℕ, zero, suc, _+_, _-_, _^_, _≤_, _<_}
+use native.Mathlib.Nat.{add-zero, add-assoc}
+use native.Mathlib.Omega.{arith}
+use mathlib.Core.Path.{_≡_, refl, sym, ap, _∙_, subst}
+use mathlib.Core.Bool.{Bool, true, false, cond}
+use mathlib.Core.List.{List, [], _∷_, _++_, map}
+use lib.ListN.{length, drop, replicate, length-append, length-replicate, length-map}
+use lib.Seq.{paste, paste-zero}
+use Rattle.definition.specs.Answers.{Checked, refused, accepted}
+use Rattle.definition.specs.Bytes.{laid}
+use Rattle.definition.specs.Values.{Value}
+use Rattle.definition.specs.Lists.{values}
+use Rattle.definition.specs.States.{set, further}
+use Rattle.definition.specs.Writing.{Cell, pad, byte, pads, zeroed, Output, output, nothing, Place, place, writeOp}
+use Rattle.definition.specs.Calls.{recordOf}
+use Rattle.definition.specs.declared.State.{State}
+use Rattle.definition.specs.declared.Setting.{Setting}
+use Rattle.definition.specs.declared.Op.{Op}
+use Rattle.definition.proofs.Cells.{map-append}
+use Rattle.values.specs.Meaning.{isAccepted}
+use Rattle.plan.specs.Plans.{textBytes, Wrote, Padded, ItemPlan, ItemAt}
+use Rattle.plan.specs.Words.{fillOf}
+use Rattle.plan.specs.declared.item.Plan.{Plan}
+use Rattle.plan.specs.declared.item.Plan.the-variants as Plan
+use Rattle.write.specs.Walks.{listed, valuesOf, FitsAt, putAt, passed, taken, written, Moved}
+use Rattle.write.specs.declared.pass.Progress.{Progress}
+
+pub list-known : (c : Checked (List Value)) → isAccepted c ≡ true → c ≡ accepted (listed c)
+list-known (refused k) e = absurd (let z : _≡_ {A = ℕ} 0 1 = cc in omega arith)
+list-known (accepted vs) e = refl
+
+-- ---- the bytes of cells
+zeros-bytes : (n : ℕ) → map zeroed (pads n) ≡ replicate n 0
+zeros-bytes zero = refl
+zeros-bytes (suc n) = ap (λ (s : List ℕ). 0 ∷ s) (zeros-bytes n)
+
+value-bytes : (s : List ℕ) → map zeroed (map byte s) ≡ s
+value-bytes [] = refl
+value-bytes (b ∷ s) = ap (λ (t : List ℕ). b ∷ t) (value-bytes s)
+
+padded-bytes : (n : ℕ) (s : List ℕ) → map zeroed (pads n ++ map byte s) ≡ replicate n 0 ++ s
+padded-bytes n s = map-append zeroed (pads n) (map byte s) ∙ ap (λ (x : List ℕ). x ++ map zeroed (map byte s)) (zeros-bytes n) ∙ ap (λ (x : List ℕ). replicate n 0 ++ x) (value-bytes s)
+
+padded-length : (n : ℕ) (s : List ℕ) → length (pads n ++ map byte s) ≡ n + length s
+padded-length n s = length-append (pads n) (map byte s) ∙ ap (λ (x : ℕ). x + length (map byte s)) (length-replicate n pad) ∙ ap (λ (x : ℕ). n + x) (length-map s byte)
+
+-- ---- what an item does at p
+module _ (l : List ℕ) (p : Progress) (op : Op) (known : isAccepted (values (drop (p .at) l)) ≡ true) where
+  abbrev vs : List Value
+  vs = valuesOf (drop (p .at) l)
+
+  pub planned : (r q : Plan) → ItemAt l (p .at) (p .state) op r → r ≡ q → ItemPlan l (p .state) vs op q
+  planned r q h e = subst (ItemPlan l (p .state) vs op) e (h vs (list-known (values (drop (p .at) l)) known))
+
+  pub moved-skip : ItemPlan l (p .state) vs op Plan.Skip → Moved l p op p
+  moved-skip h = record { out = nothing; is = h; known = known; used = sym (add-zero (p .used)); items = sym (add-zero (p .items)); few = (omega arith, omega arith) }
+
+  moved-past : (t : State) (cells : List Cell) → written l p op ≡ accepted (place t vs, output cells [] 1) → Moved l p op (passed p t)
+  moved-past t cells h = record { out = output cells [] 1; is = h; known = known; used = sym (add-zero (p .used)); items = refl; few = (omega arith, omega arith) }
+
+  pub moved-set : (x : Setting) (q : Progress) → ItemPlan l (p .state) vs op (Plan.Set x) → q ≡ passed p (set x (p .state)) → Moved l p op q
+  moved-set x q h e = subst (Moved l p op) (sym e) (moved-past (set x (p .state)) [] h)
+
+  pub moved-zeros : (n : ℕ) (q : Progress) → ItemPlan l (p .state) vs op (Plan.Zeros n) → q ≡ passed p (further (p .state) n) → Moved l p op q
+  moved-zeros n q h e = subst (Moved l p op) (sym e) (moved-past (further (p .state) n) (pads n) (h .is))
+
+  module _ (n : ℕ) (bytes : List ℕ) (size next : ℕ) (h : Wrote l (p .state) vs op n bytes size next) where
+    put-out : written l p op ≡ accepted (place (further (p .state) size) (valuesOf (drop next l)), output (pads n ++ map byte bytes) ((h .field, h .val) ∷ []) 1)
+    put-out = h .is ∙ ap (λ (ws : List Value). accepted (place (further (p .state) size) ws, output (pads n ++ map byte bytes) ((h .field, h .val) ∷ []) 1)) (sym (ap listed (h .list)))
+
+    pub moved-value : (q : Progress) → q ≡ taken p size next → Moved l p op q
+    moved-value q e = subst (Moved l p op) (sym e) (record { out = _; is = put-out; known = ap isAccepted (h .list); used = refl; items = refl; few = (omega arith, omega arith) })
+
+    put-size : length (pads n ++ map byte bytes) ≡ size
+    put-size = padded-length n bytes ∙ h .long
+
+    pub value-room : (put : Bool) (m w : ℕ) → (put ≡ true → FitsAt m w (written l p op)) → put ≡ true → w + size ≤ m
+    value-room put m w f e = subst (λ (x : ℕ). w + x ≤ m) put-size (subst (FitsAt m w) put-out (f e))
+
+    pub value-bytes-put : (put : Bool) (d g : List ℕ) (w : ℕ) → g ≡ cond put (paste d w (replicate n 0 ++ bytes) size) d → g ≡ cond put (putAt d w (written l p op)) d
+    value-bytes-put put d g w e = e ∙ ap (λ (x : List ℕ). cond put x d) (sym (ap (putAt d w) put-out ∙ ap (λ (x : List ℕ). paste d w x (length (pads n ++ map byte bytes))) (padded-bytes n bytes) ∙ ap (paste d w (replicate n 0 ++ bytes)) put-size))
+
+  module _ (n : ℕ) (h : Padded (p .state) vs op n) where
+    pub zeros-room : (put : Bool) (m w : ℕ) → (put ≡ true → FitsAt m w (written l p op)) → put ≡ true → w + n ≤ m
+    zeros-room put m w f e = subst (λ (x : ℕ). w + x ≤ m) (length-replicate n pad) (subst (FitsAt m w) (h .is) (f e))
+
+    pub zeros-put : (put : Bool) (d g : List ℕ) (w : ℕ) → g ≡ cond put (paste d w (replicate n 0) n) d → g ≡ cond put (putAt d w (written l p op)) d
+    zeros-put put d g w e = e ∙ ap (λ (x : List ℕ). cond put x d) (sym (ap (putAt d w) (h .is) ∙ ap (λ (x : List ℕ). paste d w x (length (pads n))) (zeros-bytes n) ∙ ap (paste d w (replicate n 0)) (length-replicate n pad)))
+
+  -- an item that puts nothing
+  nothing-put : (put : Bool) (d : List ℕ) (w : ℕ) → putAt d w (written l p op) ≡ d → d ≡ cond put (putAt d w (written l p op)) d
+  nothing-put true d w e = sym e
+  nothing-put false d w e = refl
+
+  pub refused-put : (put : Bool) (d : List ℕ) (w k : ℕ) → written l p op ≡ refused k → d ≡ cond put (putAt d w (written l p op)) d
+  refused-put put d w k e = nothing-put put d w (ap (putAt d w) e)
+
+  pub none-put : (put : Bool) (d : List ℕ) (w : ℕ) (q : Place Value) (n : ℕ) → written l p op ≡ accepted (q, output [] [] n) → d ≡ cond put (putAt d w (written l p op)) d
+  none-put put d w q n e = nothing-put put d w (ap (putAt d w) e ∙ sym (paste-zero d w []))
