@@ -5,7 +5,7 @@ use native.Mathlib.Omega.{arith}
 use lib.Dec.{leb}
 use mathlib.Core.Path.{_≡_, refl, sym, ap, _∙_}
 use mathlib.Core.Bool.{Bool, true, false}
-use borrow.Author.Tests.{le-leb, lt-leb, leb-true, leb-false, ne-eqb}
+use borrow.Author.Tests.{le-leb, lt-leb, leb-true, leb-false}
 use Rattle.definition.specs.Answers.{refused, accepted}
 use Rattle.definition.specs.Ops.{isPower}
 use Rattle.definition.specs.States.{further, longer, alignment, fill, padding}
@@ -28,20 +28,16 @@ module _ (s : State) (n a : ℕ) (is : a ≡ min n (s .limit)) where
   unfolding alignment
   alignment-other h = rw (← is, h)
 
-  -- where the alignment is the literal b
-  pub padding-power : (b : ℕ) → a ≡ b → isPower b ≡ true → padding s n ≡ accepted (fill b (s .length))
+  pub padding-power : isPower a ≡ true → padding s n ≡ accepted (fill a (s .length))
   unfolding padding
-  padding-power b e h = rw (alignment-power (ap isPower e ∙ h), e)
+  padding-power h = rw (alignment-power h)
 
   pub padding-one : a ≡ 1 → padding s n ≡ accepted 0
-  padding-one e = padding-power 1 e refl ∙ ap accepted (mod-one (1 - s .length % 1))
+  padding-one e = padding-power (ap isPower e) ∙ rw (e, mod-one (1 - s .length % 1))
 
   pub padding-other : isPower a ≡ false → padding s n ≡ refused 6
   unfolding padding
   padding-other h = rw (alignment-other h)
-
-pub power-none : (a : ℕ) → (a ≡ 1 → ⊥) → (a ≡ 2 → ⊥) → (a ≡ 4 → ⊥) → (a ≡ 8 → ⊥) → (a ≡ 16 → ⊥) → isPower a ≡ false
-power-none a h1 h2 h4 h8 h16 = rw (ne-eqb a 1 h1, ne-eqb a 2 h2, ne-eqb a 4 h4, ne-eqb a 8 h8, ne-eqb a 16 h16)
 
 -- a difference is compared in place of a sum
 pub leb-less : (a n m : ℕ) → a ≤ m → leb n (m - a) ≡ leb (a + n) m

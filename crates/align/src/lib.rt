@@ -49,17 +49,12 @@ fn lesser(a: u64, b: u64) -> u64
     if a < b { a } else { b }
 }
 
-// Whether n is a power of two of 1 to 16.
+// Whether n is a power of two of 1 to 16: one that has no bit in common with n - 1.
 pub fn is_power(n: u64) -> bool
     ensures { λ r. ⌜ r ≡ isPower n ⌝ }
 {
-    match n {
-        1 => true,
-        2 => true,
-        4 => true,
-        8 => true,
-        _ => n == 16,
-    }
+    let mask = std::num::wrapping_sub_u64(n, 1);
+    if mask < 16 { n & mask == 0 } else { false }
 }
 
 // Whether a state can be continued from: its limit is a power of two of 1 to 16, and its length at most 2^63-1.
@@ -85,7 +80,7 @@ pub fn alignment(s: State, natural: u64) -> Amount
     }
 }
 
-// The zeros that bring the state to a natural alignment, or 6.
+// The zeros that bring the state to a natural alignment, or 6: what the negated length has below the power of two.
 pub fn padding(s: State, natural: u64) -> Amount
     ensures { λ r. ⌜ amountOf r ≡ states.padding s natural ⌝ }
 {
@@ -93,14 +88,10 @@ pub fn padding(s: State, natural: u64) -> Amount
     if a == 1 {
         return Amount::Bytes(0);
     }
-    let n = s.length;
-    match a {
-        2 => Amount::Bytes((2 - n % 2) % 2),
-        4 => Amount::Bytes((4 - n % 4) % 4),
-        8 => Amount::Bytes((8 - n % 8) % 8),
-        16 => Amount::Bytes((16 - n % 16) % 16),
-        _ => Amount::Refused(6),
+    if is_power(a) {
+        return Amount::Bytes(std::num::wrapping_sub_u64(0, s.length) & (a - 1));
     }
+    Amount::Refused(6)
 }
 
 // The state n bytes on, or 9.

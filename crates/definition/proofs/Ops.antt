@@ -1,9 +1,9 @@
 -- Each checked item has a size that its option has, by one test over the option table.
 use Prim.Native.Nat.{ℕ}
 use mathlib.Core.Path.{_≡_, refl, sym, subst}
-use mathlib.Core.Bool.{Bool, true, false, _&&_, cond}
+use mathlib.Core.Bool.{Bool, true, false, _&&_, _||_, cond}
 use mathlib.Core.List.{List, [], _∷_}
-use lib.Dec.{T, leb, eqb}
+use lib.Dec.{T, leb, eqb, eqb→eq}
 use Rattle.definition.specs.Answers.{Checked, refused, accepted, _>>=_, _>>_, require}
 use Rattle.definition.specs.Options.{options, find, entryOf}
 use Rattle.definition.specs.Items.{Item, numeralOf}
@@ -25,6 +25,20 @@ use Rattle.definition.specs.declared.Op.the-variants as Op
 use Rattle.definition.proofs.Answers.{never, same, bound, passed}
 use Rattle.definition.proofs.Numbers.{validSize}
 use Rattle.definition.proofs.Fields.{validField}
+
+-- what holds of 1, 2, 4, 8 and 16 holds of each power of two
+pub power-cases : (P : ℕ → Type 0) → P 1 → P 2 → P 4 → P 8 → P 16 → (a : ℕ) → isPower a ≡ true → P a
+power-cases P p1 p2 p4 p8 p16 a = or 1 _ p1 (or 2 _ p2 (or 4 _ p4 (or 8 _ p8 (is 16 p16))))
+  where
+    is : (k : ℕ) → P k → eqb a k ≡ true → P a
+    is k p e = subst P (sym (eqb→eq a k (subst T (sym e) tt))) p
+
+    or : (k : ℕ) (t : Bool) → P k → (t ≡ true → P a) → (eqb a k || t) ≡ true → P a
+    or k t p f = go (eqb a k) refl
+      where
+        go : (x : Bool) → eqb a k ≡ x → (x || t) ≡ true → P a
+        go true e h = is k p e
+        go false e h = f h
 
 abbrev pub validSetting : Setting → Bool
 validSetting (Setting.Order o) = true

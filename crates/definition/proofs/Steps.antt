@@ -3,9 +3,9 @@ use Prim.Native.Nat.{ℕ, _+_, _-_, _%_, _^_, min}
 use native.Mathlib.Nat.{add-assoc, add-zero}
 use native.Mathlib.Omega.{arith}
 use mathlib.Core.Path.{_≡_, refl, sym, ap, _∙_, subst}
-use mathlib.Core.Bool.{Bool, true, false, _||_}
+use mathlib.Core.Bool.{true}
 use mathlib.Core.List.{List, [], _∷_, _++_, map, append-assoc}
-use lib.Dec.{T, leb, eqb, eqb→eq}
+use lib.Dec.{T, leb}
 use lib.ListN.{length, drop, length-append, length-replicate, length-map}
 use lib.Seq.{drop-at}
 use Rattle.definition.specs.Answers.{Checked, refused, accepted, _>>=_, _>>_, require}
@@ -23,12 +23,12 @@ use Rattle.definition.specs.declared.Setting.{Setting}
 use Rattle.definition.specs.declared.Setting.the-variants as Setting
 use Rattle.definition.specs.declared.Op.{Op}
 use Rattle.definition.specs.declared.Op.the-variants as Op
-use Rattle.definition.proofs.Answers.{never, same, bound, passed, true-not-false}
+use Rattle.definition.proofs.Answers.{never, same, bound, passed}
 use Rattle.definition.proofs.Bytes.{first-of}
 use Rattle.definition.proofs.Cells.{split, holds-length, holds-bytes, holds-none}
 use Rattle.definition.proofs.Texts.{Returns}
 use Rattle.definition.proofs.Fields.{field-back}
-use Rattle.definition.proofs.Ops.{validOp, op-valid}
+use Rattle.definition.proofs.Ops.{power-cases, validOp, op-valid}
 
 -- there is room for n bytes more
 abbrev pub Roomy : State → ℕ → Type 0
@@ -107,19 +107,7 @@ abbrev pub Near : ℕ → ℕ → Type 0
 Near x y = x % 16 ≡ y % 16
 
 fill-near : (a x y : ℕ) → Near x y → isPower a ≡ true → fill a x ≡ fill a y
-fill-near a x y h e = go (eqb a 1) refl (eqb a 2) refl (eqb a 4) refl (eqb a 8) refl (eqb a 16) refl e
-  where
-    is : (k : ℕ) → eqb a k ≡ true → a ≡ k
-    is k e = eqb→eq a k (subst T (sym e) tt)
-
-    go : (t1 : Bool) → eqb a 1 ≡ t1 → (t2 : Bool) → eqb a 2 ≡ t2 → (t4 : Bool) → eqb a 4 ≡ t4 → (t8 : Bool) → eqb a 8 ≡ t8 → (t16 : Bool) → eqb a 16 ≡ t16
-        → (t1 || (t2 || (t4 || (t8 || t16)))) ≡ true → fill a x ≡ fill a y
-    go true e1 t2 e2 t4 e4 t8 e8 t16 e16 e = rw (is 1 e1) (omega arith)
-    go false e1 true e2 t4 e4 t8 e8 t16 e16 e = rw (is 2 e2) (omega arith)
-    go false e1 false e2 true e4 t8 e8 t16 e16 e = rw (is 4 e4) (omega arith)
-    go false e1 false e2 false e4 true e8 t16 e16 e = rw (is 8 e8) (omega arith)
-    go false e1 false e2 false e4 false e8 true e16 e = rw (is 16 e16) (omega arith)
-    go false e1 false e2 false e4 false e8 false e16 e = absurd (true-not-false (sym e))
+fill-near a x y h = power-cases (λ b. fill b x ≡ fill b y) (omega arith) (omega arith) (omega arith) (omega arith) (omega arith) a
 
 padding-near : (s : State) (m n p : ℕ) → Near m (s .length) → padding s n ≡ accepted p → padding (placed m s) n ≡ accepted p
 unfolding alignment padding

@@ -1,6 +1,9 @@
--- Each power of two is a literal, at which the fill is the definition's.
-use mathlib.Core.Path.{refl, sym}
-use Rattle.align.proofs.States.{padding-power, padding-one, padding-other, power-none}
+-- Of a power of two the fill is what the negated length has below it.
+use native.Mathlib.Omega.{arith}
+use mathlib.Core.Path.{sym, ap, _∙_}
+use Rattle.definition.specs.Answers.{accepted}
+use Rattle.align.proofs.Powers.{power-least, power-fill}
+use Rattle.align.proofs.States.{padding-power, padding-one, padding-other}
 use borrow.Author.Needs.{needs}
 use Rattle.align.proofs.padding.Statement.{statement}
 use Rattle.align.proofs.padding.Tie as tie
@@ -11,32 +14,24 @@ lesser-requires c κs = search needs
 returns : tie.Need-returns
 returns c = sym (padding-one _ _ _ (c .before .lesser .ensures) (c .if1 .taken))
 
-sub-t8 : tie.Need-sub-t8
-sub-t8 c = search needs
+is-power-requires : tie.Need-is-power-requires
+is-power-requires c κs = search needs
 
-sub-t11 : tie.Need-sub-t11
-sub-t11 c = search needs
+wrapping-sub-u64-requires : tie.Need-wrapping-sub-u64-requires
+wrapping-sub-u64-requires c κs = search needs
 
-sub-t14 : tie.Need-sub-t14
-sub-t14 c = search needs
-
-sub-t17 : tie.Need-sub-t17
-sub-t17 c = search needs
+sub-t7 : tie.Need-sub-t7
+sub-t7 c = omega (arith, power-least (c .before .before .before .before .lesser .result) (sym (c .before .before .is-power .ensures) ∙ c .before .if2 .taken))
 
 returns-2 : tie.Need-returns-2
-returns-2 c = sym (padding-power _ _ _ (c .before .before .lesser .ensures) 2 (c .match .keys1) refl)
+returns-2 c =
+    let a = c .before .before .before .before in
+    let p = sym (c .before .before .is-power .ensures) ∙ c .before .if2 .taken in
+    ap accepted (power-fill (c .wrapping-sub-u64 .result) (a .before .args .s .length) (c .wrapping-sub-u64 .ensures) (a .lesser .result) p)
+    ∙ sym (padding-power _ _ _ (a .lesser .ensures) p)
 
 returns-3 : tie.Need-returns-3
-returns-3 c = sym (padding-power _ _ _ (c .before .before .lesser .ensures) 4 (c .match .keys2) refl)
-
-returns-4 : tie.Need-returns-4
-returns-4 c = sym (padding-power _ _ _ (c .before .before .lesser .ensures) 8 (c .match .keys3) refl)
-
-returns-5 : tie.Need-returns-5
-returns-5 c = sym (padding-power _ _ _ (c .before .before .lesser .ensures) 16 (c .match .keys4) refl)
-
-returns-6 : tie.Need-returns-6
-returns-6 c = let r = c .match .rest in sym (padding-other _ _ _ (c .before .before .lesser .ensures) (power-none (c .before .before .lesser .result) (c .before .if1 .left) (r .0 .0 .0 .1) (r .0 .0 .1) (r .0 .1) (r .1)))
+returns-3 c = sym (padding-other _ _ _ (c .before .before .before .lesser .ensures) (sym (c .before .is-power .ensures) ∙ c .if2 .left))
 
 pub padding-spec : {M : Type 1} → statement M
 padding-spec =
@@ -44,12 +39,8 @@ padding-spec =
     (tie.spec
     lesser-requires
     returns
-    sub-t8
-    sub-t11
-    sub-t14
-    sub-t17
+    is-power-requires
+    wrapping-sub-u64-requires
+    sub-t7
     returns-2
-    returns-3
-    returns-4
-    returns-5
-    returns-6)
+    returns-3)
