@@ -1,5 +1,5 @@
 -- The field at an offset, by its bytes: its tag, its length n and its content.
-use Prim.Native.Nat.{ℕ, _+_, _≤_, _<_}
+use Prim.Native.Nat.{ℕ, _+_, _^_, _≤_, _<_}
 use mathlib.Core.Path.{_≡_, refl, sym, ap, _∙_, subst}
 use mathlib.Core.Bool.{Bool, true, false, cond}
 use mathlib.Core.List.{List}
@@ -90,7 +90,7 @@ module _ (l : List ℕ) (at n : ℕ) (complete : Complete l at n) where
       let two : leb 2 (length (drop (at + 1) l)) ≡ true = le-leb 2 (length (drop (at + 1) l)) (omega (arith, length-drop (at + 1) l)) in
       let start : drop 2 (drop (at + 1) l) ≡ drop (at + 3) l = drop-drop 2 (at + 1) l ∙ ap (λ (k : ℕ). drop k l) (add-assoc at 1 2) in
       let enough : leb n (length (drop (at + 3) l)) ≡ true = le-leb n (length (drop (at + 3) l)) (omega (arith, length-drop (at + 3) l)) in
-      opened l at p ∙ rw (two, start, ← complete .size .is, enough) (go (valueOf t content))
+      opened l at p ∙ rw (two, start, ← complete .size, enough) (go (valueOf t content))
     where
       go : (c : Checked definition.Value) → some (placed at (followed (2 + n) c)) ≡ some (followed (at + 3 + n) c)
       go (refused k) = refl
@@ -134,8 +134,8 @@ module _ (l : List ℕ) (at n : ℕ) (whole : Whole l at n) where
   long : length (take n (drop (at + 3) l)) ≡ n
   long = length-content l at n (whole .complete)
 
-  pub text-value : tag ≡ 3 → ValueRead l at n (Text (at + 3) n)
-  text-value e = is (Text (at + 3) n) tt (whole .complete .within, omega (arith, whole .complete .size .below)) (rw e)
+  pub text-value : tag ≡ 3 → n < 256 ^ 2 → ValueRead l at n (Text (at + 3) n)
+  text-value e h = is (Text (at + 3) n) tt (whole .complete .within, omega arith) (rw e)
 
   none-left : tag ≡ 0 → eqb n 0 ≡ true
   none-left e = rw e at (whole .tag)
@@ -195,9 +195,9 @@ module _ (l : List ℕ) (at : ℕ) (known : isAccepted (values (drop at l)) ≡ 
         go true e = leb-true (at + 3 + sizeAt l at) (length l) e
         go false e = absurd (not-refused (cut-short l at h (leb-false (at + 3 + sizeAt l at) (length l) e)))
 
-    pub well-formed : (n : ℕ) → Loaded l (at + 1) 2 n → Whole l at n
+    pub well-formed : (n : ℕ) → n ≡ sizeAt l at → Whole l at n
     well-formed n size =
-        let complete : Complete l at n = record { within = omega (arith, size .is, not-cut-short); size = size } in
+        let complete : Complete l at n = record { within = omega (arith, size, not-cut-short); size = size } in
         record { complete = complete; tag = go complete (suits (getD l at 0) n) refl }
       where
         go : Complete l at n → (p : Bool) → suits (getD l at 0) n ≡ p → p ≡ true

@@ -3,3 +3,4 @@ pub mod Storing
 pub mod Contents
 pub mod Fields
 pub mod Lists
+pub mod Held

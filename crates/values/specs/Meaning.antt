@@ -11,7 +11,6 @@ use Rattle.definition.specs.Answers.{Checked, refused, accepted, _>>=_}
 use Rattle.definition.specs.Values as definition
 use Rattle.definition.specs.Values.{integer, float, text, other}
 use Rattle.definition.specs.Lists.{bigTotal, fieldOf, fieldsAfter}
-use Rattle.values.specs.Loading.{Loaded}
 use Rattle.values.specs.declared.Content.{Content}
 use Rattle.values.specs.declared.Content.the-variants as Content
 use Rattle.values.specs.declared.Value.{Value}
@@ -93,7 +92,7 @@ sizeAt l at = bigTotal (take 2 (drop (at + 1) l))
 -- l has every byte of the field at an offset, whose content has n
 pub record Complete (l : List ℕ) (at n : ℕ) : Type 0 where
   pub within : at + 3 + n ≤ length l
-  pub size : Loaded l (at + 1) 2 n
+  pub size : n ≡ sizeAt l at
 
 -- what the code says of that length: n, or that l ends before
 abbrev pub LengthRead : List ℕ → ℕ → Content → Type 0

@@ -1,4 +1,7 @@
 // The fields of a value list: a tag, a length in two bytes, big-endian, and content.
+mod reader;
+
+use crate::reader::Reader;
 use coder::reading::get_word;
 use coder::words::to_signed;
 use coder::words::to_word;
@@ -66,9 +69,9 @@ enum Content {
 }
 
 // The length that the field at an offset says, where the list has as many bytes.
-fn length_at(list: &[u8], at: usize) -> Content
+fn read_length(list: &[u8], at: usize) -> Content
     requires { ⌜ at ≤ length (now list) ⌝ }
-    ensures { λ r. ⌜ LengthRead (now (list .entry)) at r ⌝ }
+    ensures { λ c. ⌜ LengthRead (now (list .entry)) at c ⌝ }
 {
     if list.len() - at < HEAD {
         return Content::Malformed;
@@ -78,6 +81,68 @@ fn length_at(list: &[u8], at: usize) -> Content
         return Content::Malformed;
     }
     Content::Length(n)
+}
+
+// The float of 64 bits.
+fn float_of(b: u64) -> Value
+    ensures { λ r. ⌜ FloatRead b r ⌝ }
+{
+    if b % SIGN > INFINITY {
+        Value::NotANumber(b)
+    } else {
+        Value::Float(f64::from_bits(b))
+    }
+}
+
+// The field at an offset of a list that is well formed from there on, and does not end there.
+fn value_at(list: &[u8], at: usize) -> Field
+    requires { ⌜ at < length (now list) ⌝ ∗ ⌜ isAccepted (values (drop at (now list))) ≡ true ⌝ }
+    ensures { λ v. ⌜ FieldRead (now (list .entry)) at v ⌝ }
+{
+    let tag = list[at];
+    let start = at + HEAD;
+    if tag == TAG_TEXT {
+        let n = number_at(list, at + 1, 2) as usize;
+        return Field::Found(Value::Text(start, n), start + n);
+    }
+    if tag == TAG_OTHER {
+        return Field::Found(Value::Other, start);
+    }
+    let b = number_at(list, start, 8);
+    let next = start + 8;
+    if tag == TAG_INTEGER {
+        return Field::Found(Value::Integer(to_signed(b)), next);
+    }
+    Field::Found(float_of(b), next)
+}
+
+// The field at an offset of a list that is well formed from there on.
+fn read_field(list: &[u8], at: usize) -> Field
+    requires { ⌜ isAccepted (values (drop at (now list))) ≡ true ⌝ }
+    ensures { λ f. ⌜ FieldRead (now (list .entry)) at f ⌝ }
+{
+    if at >= list.len() {
+        return Field::End;
+    }
+    value_at(list, at)
+}
+
+// ---- reading through a reader
+
+// The field at an offset of a list that is well formed from there on.
+pub fn field_at(list: &[u8], at: usize) -> Field
+    requires { ⌜ isAccepted (values (drop at (now list))) ≡ true ⌝ }
+    ensures { λ r. ⌜ FieldRead (now (list .entry)) at r ⌝ }
+{
+    Reader { list, at }.field()
+}
+
+// The length that the field at an offset says, where the list has as many bytes.
+fn length_at(list: &[u8], at: usize) -> Content
+    requires { ⌜ at ≤ length (now list) ⌝ }
+    ensures { λ r. ⌜ LengthRead (now (list .entry)) at r ⌝ }
+{
+    Reader { list, at }.length()
 }
 
 // Whether a content of n bytes suits a tag.
@@ -108,49 +173,6 @@ fn content_at(list: &[u8], at: usize) -> Content
         return Content::Length(n);
     }
     Content::Malformed
-}
-
-// The float of 64 bits.
-fn float_of(b: u64) -> Value
-    ensures { λ r. ⌜ FloatRead b r ⌝ }
-{
-    if b % SIGN > INFINITY {
-        Value::NotANumber(b)
-    } else {
-        Value::Float(f64::from_bits(b))
-    }
-}
-
-// The field at an offset, which has a content of n bytes.
-fn value_at(list: &[u8], at: usize, n: usize) -> Field
-    requires { ⌜ Whole (now list) at n ⌝ }
-    ensures { λ r. ⌜ FieldRead (now (list .entry)) at r ⌝ }
-{
-    let tag = list[at];
-    let start = at + HEAD;
-    if tag == TAG_TEXT {
-        return Field::Found(Value::Text(start, n), start + n);
-    }
-    if tag == TAG_OTHER {
-        return Field::Found(Value::Other, start);
-    }
-    let b = number_at(list, start, 8);
-    let next = start + 8;
-    if tag == TAG_INTEGER {
-        return Field::Found(Value::Integer(to_signed(b)), next);
-    }
-    Field::Found(float_of(b), next)
-}
-
-// The field at an offset of a list that is well formed from there on.
-pub fn field_at(list: &[u8], at: usize) -> Field
-    requires { ⌜ isAccepted (values (drop at (now list))) ≡ true ⌝ }
-    ensures { λ r. ⌜ FieldRead (now (list .entry)) at r ⌝ }
-{
-    if at >= list.len() {
-        return Field::End;
-    }
-    value_at(list, at, number_at(list, at + 1, 2) as usize)
 }
 
 // Whether the list is fields and nothing else.

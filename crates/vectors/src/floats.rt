@@ -29,10 +29,12 @@ fn listed(bits: u64) -> Value
 {
     let mut list = [0u8; 11];
     values::put_float(&mut list, 0, bits);
+    if !values::is_list(&list) {
+        return Value::Other;
+    }
     match values::field_at(&list, 0) {
         Field::Found(x, _) => x,
         Field::End => Value::Other,
-        Field::Malformed => Value::Other,
     }
 }
 

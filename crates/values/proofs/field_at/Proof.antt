@@ -1,27 +1,22 @@
--- `field_at` meets its contract: at the end, or a field, which is whole.
-use native.Mathlib.Omega.{arith}
-use lib.Dec.{lit≤}
+-- `field_at` meets its contract: it makes a reader and calls its `field`.
+use mathlib.Core.Path.{_≡_}
+use mathlib.Core.Bool.{true}
+use lib.ListN.{drop}
+use contract.Monad.{fact}
 use denote.Ref.{now}
-use Rattle.values.proofs.Contents.{at-end, not-cut-short, well-formed}
-use borrow.Author.Needs.{needs}
+use Rattle.definition.specs.Lists.{values}
+use Rattle.values.specs.Meaning.{FieldRead, isAccepted}
+use Rattle.values.proofs.Field.{the-type}
+use Rattle.values.proofs.Field.Laws.{the-laws}
+use Rattle.values.proofs.Held.{made-spec}
+use Rattle.values.proofs.reader.Reader.field.Symbol as callee
+use Rattle.values.proofs.reader.Reader.field.Met.{met}
+use Rattle.values.proofs.field_at.Key as key
 use Rattle.values.proofs.field_at.Statement.{statement}
-use Rattle.values.proofs.field_at.Tie as tie
-
-returns : tie.Need-returns
-returns c = at-end (now (c .before .before .args .list)) (c .before .before .args .at) (c .if1 .taken)
-
-add-number-at : tie.Need-add-number-at
-add-number-at c = search needs
-
-number-at-requires : tie.Need-number-at-requires
-number-at-requires c κs = let a = c .before .before in (lit≤ tt, omega (arith, not-cut-short (now (a .args .list)) (a .args .at) (a .pre) (c .if1 .left)))
-
-value-at-requires : tie.Need-value-at-requires
-value-at-requires c κs = let a = c .before .before .before in well-formed (now (a .args .list)) (a .args .at) (a .pre) (c .before .if1 .left) _ (c .number-at .ensures)
-
-returns-2 : tie.Need-returns-2
-returns-2 c = search needs
+use Rattle.values.proofs.field_at.Code as code
 
 pub field-at-spec : {M : Type 1} → statement M
-field-at-spec =
-    tie.close (tie.spec returns add-number-at number-at-requires value-at-requires returns-2)
+unfolding code.routine
+field-at-spec 𝓤 H 𝓜 𝓖 𝓡 =
+    made-spec the-type the-laws tt 𝓤 H 𝓜 𝓖 𝓡 (λ l at. fact 𝓤 (isAccepted (values (drop at (now l))) ≡ true)) (λ l at r. fact 𝓤 (FieldRead (now l) at r))
+    code.env key.name callee.name callee.routine code.calls-values·reader·Reader·field (code.unfolded 𝓤 H 𝓜 𝓡) (met 𝓤 H 𝓜 𝓖 𝓡)

@@ -57,7 +57,7 @@ loop-again c =
     let l = now (c .before .before .before .before .before .before .before .args .list) in
     let i = c .before .before .before .before .before .loop in
     let h = complete c in
-    (h .within, ap (λ n. fieldsAfter (i .left - 1) (drop (i .at + 3 + n) l)) (h .size .is) ∙ sym (after-next l (i .at) (i .left) (c .before .before .before .before .loop-test .taken)) ∙ i .inv .1)
+    (h .within, ap (λ n. fieldsAfter (i .left - 1) (drop (i .at + 3 + n) l)) (h .size) ∙ sym (after-next l (i .at) (i .left) (c .before .before .before .before .loop-test .taken)) ∙ i .inv .1)
 
 returns-2 : tie.Need-returns-2 Inv-loop μ-loop
 unfolding fieldsAfter

@@ -1,5 +1,5 @@
 -- `value_at` meets its contract: by the tag, which the content suits.
-use mathlib.Core.Path.{_≡_, sym, _∙_}
+use mathlib.Core.Path.{_≡_, refl, _∙_}
 use native.Mathlib.Omega.{arith}
 use lib.Dec.{lit≤}
 use mir.Syntax.{w64}
@@ -7,10 +7,15 @@ use mir.Val.{toZ, ofZ}
 use mir.Facts.{toZ-ofZ}
 use denote.Ref.{now}
 use Rattle.definition.specs.Bytes.{signed}
-use Rattle.values.proofs.Contents.{text-value, other-none, other-value, number-eight, integer-value, float-value, found, found-by}
+use Rattle.values.specs.Meaning.{sizeAt, Whole}
+use Rattle.values.proofs.Contents.{not-cut-short, well-formed, text-value, other-none, other-value, number-eight, integer-value, float-value, found, found-by}
 use borrow.Author.Needs.{needs}
 use Rattle.values.proofs.value_at.Statement.{statement}
 use Rattle.values.proofs.value_at.Tie as tie
+
+-- the field is whole
+whole : (s : tie.Start) → Whole (now (s .args .list)) (s .args .at) (sizeAt (now (s .args .list)) (s .args .at))
+whole s = well-formed (now (s .args .list)) (s .args .at) (s .pre .1) (s .pre .0) _ refl
 
 shared-slice-read-tag : tie.Need-shared-slice-read-tag
 shared-slice-read-tag c = search needs
@@ -18,26 +23,33 @@ shared-slice-read-tag c = search needs
 add-start : tie.Need-add-start
 add-start c = search needs
 
+add-number-at : tie.Need-add-number-at
+add-number-at c = search needs
+
+number-at-requires : tie.Need-number-at-requires
+number-at-requires c κs = let a = c .before .before .before in (lit≤ tt, omega (arith, not-cut-short (now (a .args .list)) (a .args .at) (a .pre .1) (a .pre .0)))
+
 add-t12 : tie.Need-add-t12
 add-t12 c = search needs
 
 returns : tie.Need-returns
 returns c =
-    let a = c .before .before .before in
-    let w = a .pre in
-    found _ _ _ _ w (text-value (now (a .args .list)) (a .args .at) (a .args .n) w (c .if1 .taken))
+    let a = c .before .before .before .before in
+    let n = c .number-at in
+    let w = well-formed (now (a .args .list)) (a .args .at) (a .pre .1) (a .pre .0) (n .result) (n .ensures .is) in
+    found _ _ _ _ w (text-value (now (a .args .list)) (a .args .at) (n .result) w (c .before .if1 .taken) (n .ensures .below))
 
 returns-2 : tie.Need-returns-2
 returns-2 c =
     let a = c .before .before .before .before in
-    let w = a .pre in
-    found-by _ _ _ _ w (other-value (now (a .args .list)) (a .args .at) (a .args .n) w (c .if2 .taken)) _ (omega (arith, other-none (now (a .args .list)) (a .args .at) (a .args .n) w (c .if2 .taken)))
+    let w = whole a in
+    found-by _ _ _ _ w (other-value (now (a .args .list)) (a .args .at) _ w (c .if2 .taken)) _ (omega (arith, other-none (now (a .args .list)) (a .args .at) _ w (c .if2 .taken)))
 
-eight : (c : tie.Else2) → c .before .before .before .before .args .n ≡ 8
-eight c = let a = c .before .before .before .before in number-eight (now (a .args .list)) (a .args .at) (a .args .n) (a .pre) (c .before .if1 .left) (c .if2 .left)
+eight : (c : tie.Else2) → sizeAt (now (c .before .before .before .before .args .list)) (c .before .before .before .before .args .at) ≡ 8
+eight c = let a = c .before .before .before .before in number-eight (now (a .args .list)) (a .args .at) _ (whole a) (c .before .if1 .left) (c .if2 .left)
 
-number-at-requires : tie.Need-number-at-requires
-number-at-requires c κs = (lit≤ tt, omega (arith, eight c, c .before .before .before .before .pre .complete .within))
+number-at-requires-2 : tie.Need-number-at-requires-2
+number-at-requires-2 c κs = (lit≤ tt, omega (arith, eight c, whole (c .before .before .before .before) .complete .within))
 
 add-next : tie.Need-add-next
 add-next c = search needs
@@ -48,11 +60,10 @@ to-signed-requires c κs = search needs
 returns-3 : tie.Need-returns-3
 returns-3 c =
     let a = c .before .before .before .before .before .before .before in
-    let w = a .pre in
     let e = eight (c .before .before .before) in
-    let b = c .before .before .number-at in
+    let b = c .before .before .number-at2 in
     let z : toZ w64 (ofZ w64 (c .to-signed .result)) ≡ signed 8 (b .result) = toZ-ofZ (record { sfits = c .to-signed .ok }) ∙ c .to-signed .ensures in
-    rw z (found-by _ _ _ _ w (integer-value (now (a .args .list)) (a .args .at) (a .args .n) w e (b .result) (b .ensures) (c .before .if3 .taken)) _ (omega (arith, e)))
+    rw z (found-by _ _ _ _ (whole a) (integer-value (now (a .args .list)) (a .args .at) _ (whole a) e (b .result) (b .ensures) (c .before .if3 .taken)) _ (omega (arith, e)))
 
 float-of-requires : tie.Need-float-of-requires
 float-of-requires c κs = search needs
@@ -60,10 +71,9 @@ float-of-requires c κs = search needs
 returns-4 : tie.Need-returns-4
 returns-4 c =
     let a = c .before .before .before .before .before .before .before in
-    let w = a .pre in
     let e = eight (c .before .before .before) in
-    let b = c .before .before .number-at in
-    found-by _ _ _ _ w (float-value (now (a .args .list)) (a .args .at) (a .args .n) w e (b .result) (b .ensures) (c .before .before .before .before .if1 .left) (c .before .before .before .if2 .left) (c .before .if3 .left) (c .float-of .result) (c .float-of .ensures)) _ (omega (arith, e))
+    let b = c .before .before .number-at2 in
+    found-by _ _ _ _ (whole a) (float-value (now (a .args .list)) (a .args .at) _ (whole a) e (b .result) (b .ensures) (c .before .before .before .before .if1 .left) (c .before .before .before .if2 .left) (c .before .if3 .left) (c .float-of .result) (c .float-of .ensures)) _ (omega (arith, e))
 
 pub value-at-spec : {M : Type 1} → statement M
 value-at-spec =
@@ -71,10 +81,12 @@ value-at-spec =
     (tie.spec
     shared-slice-read-tag
     add-start
+    add-number-at
+    number-at-requires
     add-t12
     returns
     returns-2
-    number-at-requires
+    number-at-requires-2
     add-next
     to-signed-requires
     returns-3
