@@ -23,19 +23,26 @@ pub fn is_widened(v: Vector) -> bool {
     from_single((v.a % 4294967296) as u32) == v.b
 }
 
+// The first value of a list.
+fn first(list: &[u8]) -> Value
+    ensures { λ r. ⌜ Proper r ⌝ }
+{
+    if values::is_list(list) {
+        match values::field_at(list, 0) {
+            Field::Found(x, _) => return x,
+            Field::End => {}
+        }
+    }
+    Value::Other
+}
+
 // The float of 64 bits, written into a value list and read from it.
 fn listed(bits: u64) -> Value
     ensures { λ r. ⌜ Proper r ⌝ }
 {
     let mut list = [0u8; 11];
     values::put_float(&mut list, 0, bits);
-    if !values::is_list(&list) {
-        return Value::Other;
-    }
-    match values::field_at(&list, 0) {
-        Field::Found(x, _) => x,
-        Field::End => Value::Other,
-    }
+    first(&list)
 }
 
 // The integer of a float, or none.
