@@ -1,4 +1,4 @@
--- `get_word` meets its contract: each arm is what `get_bytes` ensures, at the size that the arm has.
+-- `get_word` meets its contract: each arm is what the function that it calls ensures, at the size that the arm has.
 use borrow.Author.Needs.{needs}
 use Rattle.coder.proofs.reading.get_word.Statement.{statement}
 use Rattle.coder.proofs.reading.get_word.Tie as tie
@@ -15,8 +15,8 @@ get-bytes-requires-3 c κs = search needs
 get-bytes-requires-4 : tie.Need-get-bytes-requires-4
 get-bytes-requires-4 c κs = search needs
 
-get-bytes-requires-5 : tie.Need-get-bytes-requires-5
-get-bytes-requires-5 c κs = search needs
+get-any-requires : tie.Need-get-any-requires
+get-any-requires c κs = search needs
 
 returns : tie.Need-returns
 returns c = rw (c .before .match .keys1) (c .get-bytes .ensures)
@@ -41,7 +41,7 @@ get-word-spec =
     get-bytes-requires-2
     get-bytes-requires-3
     get-bytes-requires-4
-    get-bytes-requires-5
+    get-any-requires
     returns
     returns-2
     returns-3
