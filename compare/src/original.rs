@@ -217,9 +217,14 @@ impl Original {
         })
     }
 
-    /// The message of the last call, for printing; nothing where it was accepted.
+    /// The message of the last call; empty where it was accepted.
+    pub fn message(&self) -> &str {
+        &self.state.message
+    }
+
+    /// The same, for printing behind a difference.
     pub fn said(&self) -> String {
-        if self.state.message.is_empty() { String::new() } else { format!(" (it says: {})", self.state.message) }
+        if self.message().is_empty() { String::new() } else { format!(" (it says: {})", self.message()) }
     }
 
     /// Runs `work` with the state that holds these arguments, for counting what a call costs.

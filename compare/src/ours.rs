@@ -37,6 +37,7 @@ unsafe extern "C" {
         list_length: usize,
         answer: *mut u64,
     ) -> u64;
+    fn digribbon_list_after(list: *const u8, list_length: usize, fields: u64, answer: *mut u64) -> u64;
 }
 
 /// Instead of a refusal's number: the call refused and changed its answer all the same.
@@ -138,4 +139,10 @@ pub fn unpack(format: &[u8], data: &[u8], start: i64, list: &mut [u8]) -> Result
         )
     })
     .map(|[length, position]| (length, position))
+}
+
+/// Where the list after some fields starts.
+pub fn list_after(list: &[u8], fields: u64) -> Result<u64, u64> {
+    answered::<1>(|answer| unsafe { digribbon_list_after(list.as_ptr(), list.len(), fields, answer) })
+        .map(|[offset]| offset)
 }

@@ -241,7 +241,7 @@ fn cut(case: &Written, whole: &Result<(Vec<u8>, Continued), u64>, random: &mut R
                 });
             }
         };
-        (state, list) = (answer.next, skip(list, answer.used as usize));
+        (state, list) = (answer.next, list_after(list, answer.used)?);
         joined.extend_from_slice(&bytes);
         sums = Continued {
             next: answer.next,
@@ -252,6 +252,18 @@ fn cut(case: &Written, whole: &Result<(Vec<u8>, Continued), u64>, random: &mut R
     }
     let same = whole.as_ref().is_ok_and(|(record, answer)| *record == joined && *answer == sums);
     hold(same, || format!("the parts give {} and {sums:?}, the whole {whole:?}", Bytes(&joined)))
+}
+
+/// The list after the fields that were used, by the call, which is held to the fields' own lengths.
+fn list_after(list: &[u8], used: u64) -> Result<&[u8], String> {
+    let rest = skip(list, used as usize);
+    for (fields, expected) in [(used, list.len() - rest.len()), (u64::MAX, list.len())] {
+        let offset = ours::list_after(list, fields);
+        hold(offset == Ok(expected as u64), || {
+            format!("the list after {fields} fields is said to start at {offset:?}")
+        })?;
+    }
+    Ok(rest)
 }
 
 fn parts<'a>(format: &'a [u8], random: &mut Random) -> Vec<&'a [u8]> {

@@ -18,3 +18,4 @@ pub mod Cutting
 pub mod Bound
 pub mod Demand
 pub mod Program
+pub mod Numbered

@@ -1,5 +1,5 @@
--- Writing and reading refuse by numbers below 21, a value list by 21, and the calls, but for the result buffer, by numbers below 22.
-use Prim.Native.Nat.{ℕ, zero, suc, _+_, _-_, _^_, _<_, min}
+-- Measuring, writing and reading refuse by numbers of 1 to 20, a value list by 21, and the calls, but for the result buffer, by numbers of 1 to 21.
+use Prim.Native.Nat.{ℕ, zero, suc, _+_, _-_, _^_, _<_, _≤_, min}
 use native.Mathlib.Omega.{arith}
 use mathlib.Core.Path.{_≡_, sym}
 use mathlib.Core.Bool.{Bool, true, false, _&&_, not, cond}
@@ -14,11 +14,13 @@ use Rattle.definition.specs.Items.{Item, items, numeralOf}
 use Rattle.definition.specs.Ops.{valueOr, needed, within16, isPower, sizeOr, limitOr, numberNatural, naturalBy, naturalOf, opBy, opWith, opOf}
 use Rattle.definition.specs.Values.{Value, integer, float, text, other, asInteger, asNumber, asBytes}
 use Rattle.definition.specs.Bytes.{sign, signed, low as lowOf, coded}
-use Rattle.definition.specs.States.{further, longer, natural, alignment, padding}
+use Rattle.definition.specs.States.{start, further, longer, natural, alignment, padding}
 use Rattle.definition.specs.Fields.{inSigned, inUnsigned, floatBy, integerOr, word, filled, hasZero, encode, all, first, short, upToZero, number, signedValue, unsigned, unsignedValue, valueBy, decode}
 use Rattle.definition.specs.Writing.{nothing, _⊕_, Place, taking, early, writeField, writeOp, writeItem, writing, write}
 use Rattle.definition.specs.Reading.{readPad, readField, readOp, readItem, reading, offset, offsetOf, readFrom, read}
 use Rattle.definition.specs.Lists.{bigTotal, front, valueOf, fieldOf, valuesPast, values}
+use Rattle.definition.specs.Measuring.{sizeOf, measurePad, measureOp, silent, measureItem, measure}
+use Rattle.definition.specs.Bound.{most, boundOp, boundItem, bound}
 use Rattle.definition.specs.Calls.{atMost63, pack, unpack}
 use Rattle.definition.proofs.Answers.{never, same-number}
 use Rattle.definition.specs.declared.Class.{Class}
@@ -41,21 +43,25 @@ pub data Refuses (test : ℕ → Bool) {A : Type 0} : Checked A → Type 0 where
   low : {k : ℕ} → T (test k) → Refuses test (refused k)
   fine : {a : A} → Refuses test (accepted a)
 
--- a refusal is below n
+-- a refusal is at least 1 and below n
 abbrev pub Below : {A : Type 0} → ℕ → Checked A → Type 0
-Below n c = Refuses (λ k. ltb k n) c
+Below n c = Refuses (λ k. ltb 0 k && ltb k n) c
 
 -- a refusal is 21
 abbrev pub By21 : {A : Type 0} → Checked A → Type 0
 By21 c = Refuses (λ k. eqb k 21) c
 
 module _ {test : ℕ → Bool} where
-  low-bind : {A B : Type 0} (c : Checked A) (f : A → Checked B) → Refuses test c → ((a : A) → Refuses test (f a)) → Refuses test (c >>= f)
+  pub low-bind : {A B : Type 0} (c : Checked A) (f : A → Checked B) → Refuses test c → ((a : A) → Refuses test (f a)) → Refuses test (c >>= f)
   low-bind (refused k) f (low h) g = low h
   low-bind (accepted a) f h g = g a
 
+  low-then : {A B : Type 0} (c : Checked A) (d : Checked B) → Refuses test c → Refuses test d → Refuses test (c >> d)
+  low-then (refused k) d (low h) g = low h
+  low-then (accepted a) d h g = g
+
   -- a check, and what follows it
-  low-check : {B : Type 0} (t : Bool) (k : ℕ) (d : Checked B) → T (test k) → Refuses test d → Refuses test (require t k >> d)
+  pub low-check : {B : Type 0} (t : Bool) (k : ℕ) (d : Checked B) → T (test k) → Refuses test d → Refuses test (require t k >> d)
   low-check true k d h g = g
   low-check false k d h g = low h
 
@@ -67,15 +73,30 @@ module _ {test : ℕ → Bool} where
   low-cond true c d h g = h
   low-cond false c d h g = g
 
-  low-up : {A : Type 0} {weaker : ℕ → Bool} (c : Checked A) → ((k : ℕ) → T (test k) → T (weaker k)) → Refuses test c → Refuses weaker c
+  pub low-up : {A : Type 0} {weaker : ℕ → Bool} (c : Checked A) → ((k : ℕ) → T (test k) → T (weaker k)) → Refuses test c → Refuses weaker c
   low-up (refused k) w (low h) = low (w k h)
   low-up (accepted a) w h = fine
 
-up-22 : (k : ℕ) → T (ltb k 21) → T (ltb k 22)
-up-22 k h = lt→ltb k 22 (let m : k < 21 = ltb→lt k 21 h in omega arith)
+both : (s t : Bool) → T s → T t → T (s && t)
+both true t g h = h
+both false t g h = absurd g
 
-below-22 : (k : ℕ) → T (eqb k 21) → T (ltb k 22)
-below-22 k h = lt→ltb k 22 (let m : k ≡ 21 = eqb→eq k 21 h in omega arith)
+parts : (s t : Bool) → T (s && t) → T s × T t
+parts true t h = (tt, h)
+parts false t h = absurd h
+
+module _ (k : ℕ) where
+  pub within : (n : ℕ) → T (ltb 0 k && ltb k n) → (0 < k) × (k < n)
+  within n h = let p = parts (ltb 0 k) (ltb k n) h in (ltb→lt 0 k (p .0), ltb→lt k n (p .1))
+
+  is-within : (n : ℕ) → 0 < k → k < n → T (ltb 0 k && ltb k n)
+  is-within n g h = both (ltb 0 k) (ltb k n) (lt→ltb 0 k g) (lt→ltb k n h)
+
+  pub up : (m n : ℕ) → m ≤ n → T (ltb 0 k && ltb k m) → T (ltb 0 k && ltb k n)
+  up m n g h = let p = within m h in is-within n (p .0) (omega arith)
+
+  below-22 : T (eqb k 21) → T (ltb 0 k && ltb k 22)
+  below-22 h = let m : k ≡ 21 = eqb→eq k 21 h in is-within 22 (omega arith) (omega arith)
 
 module _ {S I O : Type 0} (step : S → I → Checked (S × O)) (nothing : O) (_⊕_ : O → O → O) (steps : (s : S) (i : I) → Below 21 (step s i)) where
   infixl 60 _⊕_
@@ -148,13 +169,57 @@ low-op : (i : Item) → Below 21 (opOf i)
 unfolding opOf
 low-op i = low-op-with (entryOf (i .byte) .rule) (entryOf (i .byte)) (i .more)
 
+low-alignment : (s : State) (n : ℕ) → Below 21 (alignment s n)
+unfolding alignment
+low-alignment s n = low-check (isPower (min n (s .limit))) 6 (accepted (min n (s .limit))) tt fine
+
 low-padding : (s : State) (n : ℕ) → Below 21 (padding s n)
-unfolding alignment padding
-low-padding s n = low-bind (alignment s n) _ (low-check (isPower (min n (s .limit))) 6 (accepted (min n (s .limit))) tt fine) (λ a. fine)
+unfolding padding
+low-padding s n = low-bind (alignment s n) _ (low-alignment s n) (λ a. fine)
 
 low-longer : (s : State) (n : ℕ) → Below 21 (longer s n)
 unfolding longer
 low-longer s n = low-check (leb (s .length + n) (2 ^ 63 - 1)) 9 (accepted (further s n)) tt fine
+
+-- ---- measuring, and the list bound
+low-size-of : (f : Field) → Below 21 (sizeOf f)
+low-size-of (Number k n) = fine
+low-size-of (Chars n) = fine
+low-size-of ZeroEnded = low tt
+low-size-of (Counted n) = low tt
+
+low-measure-pad : (s : State) (n k : ℕ) → Below 21 (measurePad s n k)
+low-measure-pad s n k = low-bind (padding s n) _ (low-padding s n) (λ p. low-longer s (p + k))
+
+low-measure-op : (s : State) (o : Op) → Below 21 (measureOp s o)
+unfolding measureOp
+low-measure-op s Op.Blank = fine
+low-measure-op s (Op.Set x) = fine
+low-measure-op s (Op.Pad n k) = low-measure-pad s n k
+low-measure-op s (Op.Put f) = low-bind (sizeOf f) _ (low-size-of f) (low-measure-pad s (natural f))
+
+low-measure-item : (s : State) (i : Item) → Below 21 (measureItem s i)
+unfolding measureItem
+low-measure-item s i = low-bind (opOf i) _ (low-op i) (λ o. low-bind (measureOp s o) _ (low-measure-op s o) (λ t. fine))
+
+pub low-measure : (f : List ℕ) → Below 21 (measure f)
+unfolding measure
+low-measure f = low-bind _ _ (low-run measureItem tt silent low-measure-item start (items f)) (λ r. fine)
+
+low-bound-op : (d : ℕ) (s : State) (o : Op) → Below 21 (boundOp d s o)
+unfolding boundOp
+low-bound-op d s Op.Blank = fine
+low-bound-op d s (Op.Set x) = fine
+low-bound-op d s (Op.Pad n k) = low-then (alignment s n) _ (low-alignment s n) fine
+low-bound-op d s (Op.Put f) = low-then (alignment s (natural f)) _ (low-alignment s (natural f)) (low-longer s (most d f))
+
+low-bound-item : (d : ℕ) (s : State) (i : Item) → Below 21 (boundItem d s i)
+unfolding boundItem
+low-bound-item d s i = low-bind (opOf i) _ (low-op i) (λ o. low-bind (boundOp d s o) _ (low-bound-op d s o) (λ t. fine))
+
+pub low-bound : (f : List ℕ) (d : ℕ) → Below 21 (bound f d)
+unfolding bound
+low-bound f d = low-bind _ _ (low-run (boundItem d) tt silent (low-bound-item d) start (items f)) (λ r. fine)
 
 -- ---- writing
 low-float : (g : ℕ → ℕ) (v : Value) → Below 21 (floatBy g v)
@@ -305,7 +370,7 @@ values-21 l = past-21 0 l
 -- ---- the calls
 pub low-pack : (s : State) (f l : List ℕ) → Below 22 (pack s f l)
 unfolding pack
-low-pack s f l = low-check (isPower (s .limit) && atMost63 (s .length)) 21 _ tt (low-bind (values l) _ (low-up (values l) below-22 (values-21 l)) (λ vs. low-up (write s vs f) up-22 (low-writing _ (items f))))
+low-pack s f l = low-check (isPower (s .limit) && atMost63 (s .length)) 21 _ tt (low-bind (values l) _ (low-up (values l) below-22 (values-21 l)) (λ vs. low-up (write s vs f) (λ k. up k 21 22 (omega arith)) (low-writing _ (items f))))
 
 low-offset : (p : ℤ) (len : ℕ) → Below 22 (offsetOf p len)
 low-offset (pos p) len = low-check (leb 1 p && leb p (len + 1)) 16 (accepted (offset (p - 1))) tt fine
@@ -314,9 +379,9 @@ low-offset (negsuc k) len = low-check (ltb k len) 16 (accepted (offset (len - su
 pub low-unpack : (f d : List ℕ) (p : ℤ) → Below 22 (unpack f d p)
 unfolding unpack read
 low-unpack f d p =
-    low-check (atMost63 (length d)) 21 _ tt (low-bind (offsetOf p (length d)) _ (low-offset p (length d)) (λ o. low-bind (readFrom f d o) _ (low-up (readFrom f d o) up-22 (low-reading _ (items f))) (λ r. fine)))
+    low-check (atMost63 (length d)) 21 _ tt (low-bind (offsetOf p (length d)) _ (low-offset p (length d)) (λ o. low-bind (readFrom f d o) _ (low-up (readFrom f d o) (λ k. up k 21 22 (omega arith)) (low-reading _ (items f))) (λ r. fine)))
 
 -- an answer whose refusals are below n is not refused by n
 pub below-not : {A : Type 0} (n : ℕ) (c : Checked A) → Below n c → c ≡ refused n → ⊥
-below-not n (refused j) (low h) e = let i = same-number e in let m : j < n = ltb→lt j n h in omega arith
+below-not n (refused j) (low h) e = let i = same-number e in let m : j < n = within j n h .1 in omega arith
 below-not n (accepted a) h e = never (sym e)

@@ -192,6 +192,10 @@ pub record Room {A : Type 0} (c : List ℕ → Call A) : Type 0 where
   -- a call that gives 22 has a result s longer than the buffer, and is accepted with every buffer at least as long as s
   pub longer : (b : List ℕ) → c b .answer ≡ refused 22 → (a : A) × (s : List ℕ) × (length b < length s) × ((d : List ℕ) → length s ≤ length d → c d ≡ gives a s d)
 
+-- ---- "A refusal returns its number only": a number of the list, 1 to 22, so that a caller may take 0 for "accepted"
+abbrev pub Numbered : {A : Type 0} → Checked A → Type 0
+Numbered c = (k : ℕ) → c ≡ refused k → (1 ≤ k) × (k ≤ 22)
+
 -- ---- "an accepted reading's list is at most this long": the bound is accepted, or 9
 abbrev pub Bounded : List ℕ → List ℕ → ℤ → List ℕ → Type 0
 Bounded f d p b = (u : Unpacked) → stringUnpack f d p b .answer ≡ accepted u → ((n : ℕ) × (listBound f (length d) ≡ accepted n) × (u .length ≤ n)) ⊎ (listBound f (length d) ≡ refused 9)

@@ -1,0 +1,42 @@
+-- What a caller sees of a call under its C name: the number that it returns, the words of its answer, and its result buffer.
+use Prim.Native.Nat.{ℕ, _-_}
+use mathlib.Core.Bool.{not, cond}
+use mathlib.Core.List.{List, [], _∷_}
+use lib.Dec.{eqb}
+use lib.ListN.{length}
+use Rattle.definition.specs.Answers.{Checked, refused, accepted}
+use Rattle.definition.specs.Lists.{fieldsAfter}
+use Rattle.definition.specs.Calls.{Call}
+use Rattle.definition.specs.declared.State.{State}
+use Rattle.definition.specs.declared.Continued.{Continued}
+use Rattle.definition.specs.declared.Unpacked.{Unpacked}
+
+-- the number returned, and what the answer's array then holds: 0 and the answer's words, or the refusal's number and what the array held before. No refusal has the number 0 (`Numbered` of the definition's Claims).
+abbrev pub told : {A : Type 0} → (A → List ℕ) → List ℕ → Checked A → ℕ × List ℕ
+told words before (refused k) = (k, before)
+told words before (accepted a) = (0, words a)
+
+-- the same, with what the lent result buffer then holds
+abbrev pub toldWith : {A : Type 0} → (A → List ℕ) → List ℕ → Call A → (ℕ × List ℕ) × List ℕ
+toldWith words before c = (told words before (c .answer), c .buffer)
+
+-- ---- the words of an answer
+
+abbrev pub word : ℕ → List ℕ
+word n = n ∷ []
+
+abbrev pub continuedWords : Continued → List ℕ
+continuedWords c = cond (c .next .big) 1 0 ∷ c .next .limit ∷ c .next .length ∷ c .written ∷ c .used ∷ c .items ∷ []
+
+abbrev pub unpackedWords : Unpacked → List ℕ
+unpackedWords u = u .length ∷ u .next .0 ∷ []
+
+-- ---- arguments
+
+-- a state: the order 0 is little, and every other number is big
+abbrev pub stateOf : ℕ → ℕ → ℕ → State
+stateOf order limit length = record { big = not (eqb order 0); limit = limit; length = length }
+
+-- where the list after its first k fields starts
+abbrev pub offsetAfter : ℕ → List ℕ → ℕ
+offsetAfter k l = length l - length (fieldsAfter k l)

@@ -1,0 +1,127 @@
+// The calls under C names. Each returns 0 and fills its answer, or returns a refusal's number and changes nothing.
+use definition::State;
+use measure::Measured;
+use measure::list_bound;
+use measure::string_packsize;
+use read::Unpacking;
+use read::string_unpack;
+use values::fields_after;
+use write::Packed;
+use write::check::Total;
+use write::pack_continued;
+use write::string_pack;
+ghost use mathlib.Core.Path.{_≡_};
+ghost use Rattle.definition.specs.Answers.{accepted};
+ghost use Rattle.definition.specs.Calls.{stringPacksize, listBound, stringPack, packContinued, stringUnpack};
+ghost use Rattle.measure.specs.Measured.{measuredOf};
+ghost use Rattle.digribbon.specs.Answers.{told, toldWith, word, continuedWords, unpackedWords, stateOf, offsetAfter};
+
+// A size in the answer, or a refusal's number.
+fn tell_size(m: Measured, answer: &mut [u64; 1]) -> u64
+    ensures { λ r. ⌜ (r, now (answer .exit)) ≡ told word (now (answer .entry)) (measuredOf m) ⌝ }
+{
+    match m {
+        Measured::Refused(k) => k as u64,
+        Measured::Size(size) => {
+            *answer = [size];
+            0
+        }
+    }
+}
+
+// Measuring.
+#[no_mangle]
+pub extern "C" fn digribbon_packsize(format: &[u8], answer: &mut [u64; 1]) -> u64
+    ensures { λ r. ⌜ (r, now (answer .exit)) ≡ told word (now (answer .entry)) (stringPacksize (now (format .entry))) ⌝ }
+{
+    tell_size(string_packsize(format), answer)
+}
+
+// The list bound.
+#[no_mangle]
+pub extern "C" fn digribbon_list_bound(
+    format: &[u8],
+    data_length: u64,
+    answer: &mut [u64; 1],
+) -> u64
+    ensures { λ r. ⌜ (r, now (answer .exit)) ≡ told word (now (answer .entry)) (listBound (now (format .entry)) «data_length») ⌝ }
+{
+    tell_size(list_bound(format, data_length), answer)
+}
+
+// Writing.
+#[no_mangle]
+pub extern "C" fn digribbon_pack(
+    format: &[u8],
+    list: &[u8],
+    record: &mut [u8],
+    answer: &mut [u64; 1],
+) -> u64
+    ensures { λ r. ⌜ ((r, now (answer .exit)), now («record» .exit)) ≡ toldWith word (now (answer .entry)) (stringPack (now (format .entry)) (now (list .entry)) (now («record» .entry))) ⌝ }
+{
+    match string_pack(format, list, record) {
+        Packed::Refused(k) => k as u64,
+        Packed::Length(length) => {
+            *answer = [length];
+            0
+        }
+    }
+}
+
+// Continued writing, from a state given by its three numbers.
+#[no_mangle]
+pub extern "C" fn digribbon_pack_continued(
+    order: u64,
+    limit: u64,
+    length: u64,
+    format: &[u8],
+    list: &[u8],
+    record: &mut [u8],
+    answer: &mut [u64; 6],
+) -> u64
+    ensures { λ r. ⌜ ((r, now (answer .exit)), now («record» .exit)) ≡ toldWith continuedWords (now (answer .entry)) (packContinued (stateOf order limit length) (now (format .entry)) (now (list .entry)) (now («record» .entry))) ⌝ }
+{
+    let state = State {
+        big: order != 0,
+        limit,
+        length,
+    };
+    match pack_continued(state, format, list, record) {
+        Total::Refused(k) => k as u64,
+        Total::Of(c) => {
+            let s = c.next;
+            *answer = [s.big as u64, s.limit, s.length, c.written, c.used, c.items];
+            0
+        }
+    }
+}
+
+// Reading.
+#[no_mangle]
+pub extern "C" fn digribbon_unpack(
+    format: &[u8],
+    data: &[u8],
+    start: i64,
+    list: &mut [u8],
+    answer: &mut [u64; 2],
+) -> u64
+    ensures { λ r. ⌜ ((r, now (answer .exit)), now (list .exit)) ≡ toldWith unpackedWords (now (answer .entry)) (stringUnpack (now (format .entry)) (now («data» .entry)) start (now (list .entry))) ⌝ }
+{
+    match string_unpack(format, data, start, list) {
+        Unpacking::Refused(k) => k as u64,
+        Unpacking::Unpacked(u) => {
+            let p = u.next;
+            *answer = [u.length, p.0];
+            0
+        }
+    }
+}
+
+// Where the list after some fields starts.
+#[no_mangle]
+pub extern "C" fn digribbon_list_after(list: &[u8], fields: u64, answer: &mut [u64; 1]) -> u64
+    ensures { λ r. ⌜ (r, now (answer .exit)) ≡ told word (now (answer .entry)) (accepted (offsetAfter fields (now (list .entry)))) ⌝ }
+{
+    *answer = [fields_after(list, fields) as u64];
+    0
+}

@@ -1,0 +1,226 @@
+/* Every call of the header, from C. The last line says how many checks passed. */
+#include "digribbon.h"
+#include <stdbool.h>
+#include <stdio.h>
+#include <stdlib.h>
+#include <string.h>
+
+#define MARK UINT64_C(0xA5C396E15A3C691E) /* what an answer holds before a call */
+#define ABOVE (UINT64_C(1) << 63)         /* the least length that is too long */
+
+static unsigned passed;
+
+static void check(bool holds, int line, const char *what)
+{
+    if (!holds) {
+        fprintf(stderr, "test.c:%d: FAILED: %s\n", line, what);
+        exit(1);
+    }
+    passed++;
+}
+
+#define CHECK(holds) check(holds, __LINE__, #holds)
+
+/* ---- bytes */
+
+typedef struct {
+    const uint8_t *start;
+    size_t length;
+} Slice;
+
+static Slice text(const char *text)
+{
+    return (Slice){(const uint8_t *)text, strlen(text)};
+}
+
+#define BYTES(...) ((Slice){(const uint8_t[]){__VA_ARGS__}, sizeof((const uint8_t[]){__VA_ARGS__})})
+#define INTEGER(low) 1, 0, 8, 0, 0, 0, 0, 0, 0, (low) / 256, (low) % 256 /* an integer of 0 to 65,535 as a field */
+
+/* Memory of its own, so that a byte outside it is seen by the address sanitizer. */
+static uint8_t *lent(size_t length)
+{
+    uint8_t *buffer = malloc(length);
+    CHECK(buffer != NULL);
+    memset(buffer, 0xEE, length);
+    return buffer;
+}
+
+/* The bytes expected, and behind them what was there before. */
+static bool holds(const uint8_t *buffer, size_t length, Slice expected)
+{
+    if (memcmp(buffer, expected.start, expected.length) != 0)
+        return false;
+    for (size_t i = expected.length; i < length; i++)
+        if (buffer[i] != 0xEE)
+            return false;
+    return true;
+}
+
+static bool unchanged(const uint8_t *buffer, size_t length, const uint64_t *answer, size_t words)
+{
+    for (size_t i = 0; i < words; i++)
+        if (answer[i] != MARK)
+            return false;
+    return holds(buffer, length, (Slice){buffer, 0});
+}
+
+/* ---- the calls */
+
+static void measures(const char *format, uint64_t number, uint64_t size)
+{
+    uint64_t answer[] = {MARK};
+    CHECK(digribbon_packsize(text(format).start, text(format).length, answer) == number);
+    CHECK(answer[0] == (number == 0 ? size : MARK));
+}
+
+static void bounds(const char *format, uint64_t data_length, uint64_t number, uint64_t bound)
+{
+    uint64_t answer[] = {MARK};
+    CHECK(digribbon_list_bound(text(format).start, text(format).length, data_length, answer) == number);
+    CHECK(answer[0] == (number == 0 ? bound : MARK));
+}
+
+/* Writing in a buffer of `room` bytes gives the record, or the number and no change. */
+static void packs(const char *format, Slice list, size_t room, uint64_t number, Slice record)
+{
+    uint64_t answer[] = {MARK};
+    uint8_t *buffer = lent(room);
+    CHECK(digribbon_pack(text(format).start, text(format).length, list.start, list.length, buffer, room, answer) ==
+          number);
+    if (number == 0)
+        CHECK(answer[0] == record.length && holds(buffer, room, record));
+    else
+        CHECK(unchanged(buffer, room, answer, 1));
+    free(buffer);
+}
+
+typedef struct {
+    uint64_t order, limit, length;
+} State;
+
+/* Continued writing gives the record and the six words, or the number and no change. */
+static void continues(State from, const char *format, Slice list, size_t room, uint64_t number, Slice record,
+                      const uint64_t words[6])
+{
+    uint64_t answer[] = {MARK, MARK, MARK, MARK, MARK, MARK};
+    uint8_t *buffer = lent(room);
+    CHECK(digribbon_pack_continued(from.order, from.limit, from.length, text(format).start, text(format).length,
+                                   list.start, list.length, buffer, room, answer) == number);
+    if (number == 0)
+        CHECK(memcmp(answer, words, sizeof answer) == 0 && holds(buffer, room, record));
+    else
+        CHECK(unchanged(buffer, room, answer, 6));
+    free(buffer);
+}
+
+/* Reading gives the list and the next position, or the number and no change. */
+static void unpacks(const char *format, Slice data, int64_t start, size_t room, uint64_t number, Slice list,
+                    uint64_t position)
+{
+    uint64_t answer[] = {MARK, MARK};
+    uint8_t *buffer = lent(room);
+    CHECK(digribbon_unpack(text(format).start, text(format).length, data.start, data.length, start, buffer, room,
+                           answer) == number);
+    if (number == 0)
+        CHECK(answer[0] == list.length && answer[1] == position && holds(buffer, room, list));
+    else
+        CHECK(unchanged(buffer, room, answer, 2));
+    free(buffer);
+}
+
+static void goes_on(Slice list, uint64_t fields, uint64_t offset)
+{
+    uint64_t answer[] = {MARK};
+    CHECK(digribbon_list_after(list.start, list.length, fields, answer) == 0);
+    CHECK(answer[0] == offset);
+}
+
+/* ---- the tests */
+
+static const Slice nothing = {(const uint8_t *)"", 0};
+
+static void test_measuring(void)
+{
+    measures("", 0, 0);
+    measures("<!8bn", 0, 16);
+    measures("c9223372036854775807", 0, ABOVE - 1);
+    measures("c9223372036854775807b", 9, 0);
+    measures("!4i3", 6, 0);
+    measures("z", 10, 0);
+    bounds("<i3 z c4", 100, 0, 11 + 103 + 7);
+    bounds("", ABOVE - 1, 0, 0);
+    bounds("", ABOVE, 21, 0);
+}
+
+static void test_writing(void)
+{
+    packs("", nothing, 0, 0, nothing);
+    packs("<!4 b i", BYTES(INTEGER(1), INTEGER(2)), 9, 0, BYTES(1, 0, 0, 0, 2, 0, 0, 0));
+    packs("<!4 b i", BYTES(INTEGER(1), INTEGER(2)), 8, 0, BYTES(1, 0, 0, 0, 2, 0, 0, 0));
+    packs("<!4 b i", BYTES(INTEGER(1), INTEGER(2)), 7, 22, nothing);
+    packs("<s1", BYTES(3, 0, 2, 'A', 'B'), 3, 0, BYTES(2, 'A', 'B'));
+    packs("<j i1", BYTES(INTEGER(1), INTEGER(200)), 9, 13, nothing);
+    packs("b", BYTES(1, 0, 8), 1, 21, nothing);
+}
+
+static void test_continued_writing(void)
+{
+    static const uint64_t orders[] = {1, 2, 1000, UINT64_MAX};
+    continues((State){0, 1, 0}, "I2", BYTES(INTEGER(258)), 2, 0, BYTES(2, 1), (uint64_t[]){0, 1, 2, 2, 1, 1});
+    for (size_t i = 0; i < sizeof orders / sizeof orders[0]; i++)
+        continues((State){orders[i], 1, 0}, "I2", BYTES(INTEGER(258)), 2, 0, BYTES(1, 2),
+                  (uint64_t[]){1, 1, 2, 2, 1, 1});
+    continues((State){0, 1, 0}, "<!4 b", BYTES(INTEGER(1), INTEGER(2)), 3, 0, BYTES(1),
+              (uint64_t[]){0, 4, 1, 1, 1, 3});
+    continues((State){0, 4, 1}, "> i", BYTES(INTEGER(2)), 7, 0, BYTES(0, 0, 0, 0, 0, 0, 2),
+              (uint64_t[]){1, 4, 8, 7, 1, 2});
+    continues((State){0, 4, 1}, "> i", BYTES(INTEGER(2)), 6, 22, nothing, NULL);
+    continues((State){0, 3, 0}, "", nothing, 1, 21, nothing, NULL);
+    continues((State){0, 1, ABOVE}, "", nothing, 1, 21, nothing, NULL);
+}
+
+static void test_reading(void)
+{
+    Slice minus_2 = BYTES(1, 0, 8, 0xFF, 0xFF, 0xFF, 0xFF, 0xFF, 0xFF, 0xFF, 0xFE);
+    unpacks("<i3", BYTES(0xFE, 0xFF, 0xFF), 1, 12, 0, minus_2, 4);
+    unpacks("<i3", BYTES(7, 0xFE, 0xFF, 0xFF), -3, 11, 0, minus_2, 5);
+    unpacks("<i3", BYTES(0xFE, 0xFF, 0xFF), 1, 10, 22, nothing, 0);
+    unpacks("", BYTES(1), 2, 0, 0, nothing, 2);
+    unpacks("", BYTES(1), 0, 1, 16, nothing, 0);
+    unpacks("b", BYTES(1), 2, 11, 17, nothing, 0);
+    unpacks("s1", BYTES(2, 'A', 'B'), 1, 5, 0, BYTES(3, 0, 2, 'A', 'B'), 4);
+}
+
+static void test_list_after(void)
+{
+    Slice list = BYTES(INTEGER(7), 3, 0, 2, 'A', 'B', 0, 0, 0);
+    goes_on(list, 0, 0);
+    goes_on(list, 1, 11);
+    goes_on(list, 2, 16);
+    goes_on(list, 3, 19);
+    goes_on(list, 4, 19);
+    goes_on(list, UINT64_MAX, 19);
+    goes_on(nothing, 1, 0);
+}
+
+/* The table has the numbers 1 to 22, each with a cause and a sentence. */
+static void test_table(void)
+{
+    unsigned last = 0;
+#define NEXT(number, cause, sentence) \
+    CHECK(number == ++last && strlen(cause) > 0 && sentence[strlen(sentence) - 1] == '.');
+    DIGRIBBON_REFUSALS(NEXT)
+    CHECK(last == 22);
+}
+
+int main(void)
+{
+    test_measuring();
+    test_writing();
+    test_continued_writing();
+    test_reading();
+    test_list_after();
+    test_table();
+    printf("%u checks passed in C\n", passed);
+    return 0;
+}

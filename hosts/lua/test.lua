@@ -1,0 +1,295 @@
+-- Tests of the module, and profiles as users write them. The last line says how many tests passed.
+local digribbon = require "digribbon"
+local pack, packsize, unpack = digribbon.pack, digribbon.packsize, digribbon.unpack
+
+local passed = 0
+local function test(name, body)
+    local ok, trace = xpcall(body, function(e) return debug.traceback(tostring(e), 2) end)
+    if not ok then
+        io.stderr:write("FAILED: ", name, "\n", trace, "\n")
+        os.exit(1, true)
+    end
+    passed = passed + 1
+end
+
+local function same(expected, ...)
+    local given = table.pack(...)
+    assert(#expected == given.n, ("%d values, not %d"):format(given.n, #expected))
+    for i, value in ipairs(expected) do
+        if given[i] ~= value or math.type(given[i]) ~= math.type(value) then
+            error(("value %d is %q, not %q"):format(i, given[i], value), 2)
+        end
+    end
+end
+
+-- The call is refused with this number.
+local function refused(number, call, ...)
+    local ok, refusal = pcall(call, ...)
+    assert(not ok, "the call was accepted")
+    assert(type(refusal) == "table", tostring(refusal))
+    assert(refusal.number == number, tostring(refusal))
+    return refusal
+end
+
+-- The call raises an error of Lua's own.
+local function failed(message, call, ...)
+    local ok, err = pcall(call, ...)
+    assert(not ok and type(err) == "string" and err:find(message, 1, true), tostring(err))
+end
+
+---- the functions
+
+test("pack", function()
+    same({ "" }, pack(""))
+    same({ "\xFE\xFF\xFF" }, pack("<i3", -2))
+    same({ "\1\2" }, pack(">I2", 258))
+    same({ "\1\0\0\0\2\0\0\0" }, pack("<!4 b i", 1, 2))
+    same({ "\1" .. ("\0"):rep(13) .. "\xF0\x3F" }, pack("<!8bn", 1, 1.0))
+    same({ "\xC8" }, pack("b", 200))
+    same({ "\2AB" }, pack("<s1", "AB"))
+    same({ "AB\0" }, pack("c3", "AB"))
+    same({ ("\xFF"):rep(8) }, pack("<T", -0.5))
+    same({ "\0\0\x80\x5D" }, pack("<f", 1152921573326323713))
+    same({ "\1\0\0\0" }, pack("<!4bXi", 1))
+    same({ "\1" }, pack("b", 1, "left over", nil, {}, print))
+    same({ ("\0"):rep(7) .. "\x80" }, pack("<d", -0.0))
+end)
+
+test("packsize", function()
+    same({ 16 }, packsize("<!8bn"))
+    same({ 3 }, packsize("!2i3"))
+    same({ math.maxinteger }, packsize("c9223372036854775807"))
+end)
+
+test("unpack", function()
+    same({ -2, 4 }, unpack("<i3", "\xFE\xFF\xFF"))
+    same({ -56, 2 }, unpack("b", "\xC8"))
+    same({ -1, 10 }, unpack("<I9", ("\xFF"):rep(8) .. "\0"))
+    same({ "AB", "C", 6 }, unpack("s1 z", "\2ABC\0"))
+    same({ 1.5, 5 }, unpack("<f", "\0\0\xC0\x3F"))
+    same({ 2, 3 }, unpack("b", "\1\2", -1))
+    same({ 2, 3 }, unpack("b", "\1\2", 2))
+    same({ 2 }, unpack("", "\1", 2))
+    same({ math.mininteger, 9 }, unpack(">j", "\x80" .. ("\0"):rep(7)))
+end)
+
+test("writer", function()
+    local writer = digribbon.writer()
+    same({ "\1", 1, 3 }, writer:pack("<!4 b", 1, "next"))
+    same({ "<", 4, 1 }, writer:state())
+    same({ "\0\0\0\2\0\0\0", 1, 1 }, writer:pack("i", 2))
+    same({ "", 0, 1 }, writer:pack(">"))
+    same({ ">", 4, 8 }, writer:state())
+    local other = digribbon.writer(writer:state())
+    same({ "A\0", 1, 1 }, writer:pack("z", "A"))
+    same({ "\0\0\0\7", 1, 1 }, other:pack("i", 7))
+    same({ "<", 1, 0 }, digribbon.writer():state())
+end)
+
+test("writer: parts give the whole", function()
+    local values = { 1, 2, "AB", 3, "C", 4, 5 }
+    local parts, writer, used = {}, digribbon.writer(), 0
+    for _, format in ipairs { "<!4 b", "Xi4", "", "i >", "s1 h", " z j" } do
+        local bytes, taken = writer:pack(format, table.unpack(values, used + 1))
+        parts[#parts + 1], used = bytes, used + taken
+    end
+    same({ pack("<!4 b Xi4 i > s1 h z j", table.unpack(values)) }, table.concat(parts))
+    same({ 6 }, used)
+end)
+
+---- refusals
+
+test("every refusal of formats, values and data", function()
+    local formats = { "q", "c18446744073709551616", "i17", "!17", "!3", "!4i3", "Xz", "c", "c9223372036854775807b", "z" }
+    for number, format in ipairs(formats) do
+        refused(number, packsize, format)
+    end
+    refused(11, pack, "b")
+    refused(12, pack, "b", "1")
+    refused(12, pack, "z", 1)
+    refused(12, pack, "b", nil)
+    refused(12, pack, "i4", 2.5)
+    refused(13, pack, "i1", 200)
+    refused(14, pack, "z", "A\0")
+    refused(15, pack, "c1", "AB")
+    refused(16, unpack, "", "A", 0)
+    refused(16, unpack, "", "A", math.mininteger)
+    refused(17, unpack, "b", "A", 2)
+    refused(17, unpack, "bq", "")
+    refused(18, unpack, "<i9", ("\xFF"):rep(8) .. "\0")
+    refused(19, unpack, "z", "A")
+    refused(20, unpack, "c65536", ("A"):rep(65536))
+    local writer = digribbon.writer("<", 3)
+    refused(21, writer.pack, writer, "")
+    refused(21, writer.pack, digribbon.writer("<", 1, -1), "")
+end)
+
+test("a refusal says number, sentence, cause and place", function()
+    local refusal = refused(13, function() return (pack("<i1", 200)) end)
+    assert(refusal.sentence == "An integer is out of its option's range.")
+    assert(refusal.cause == "supplier of values")
+    assert(tostring(refusal):find("^test.lua:%d+: refusal 13: An integer is out of its option's range%.$"), tostring(refusal))
+    assert(refused(1, packsize, "q").cause == "profile author")
+    assert(refused(17, unpack, "b", "").cause == "card data")
+    assert(refused(21, digribbon.writer("<", 3).pack, digribbon.writer("<", 3), "").cause == "host program")
+end)
+
+test("a refusal leaves the writer as it was", function()
+    local writer = digribbon.writer()
+    writer:pack(">!4 b", 1)
+    refused(13, writer.pack, writer, "<!8 i i1", 2, 200)
+    same({ ">", 4, 1 }, writer:state())
+end)
+
+test("errors that are no refusals", function()
+    failed("bad argument #1 to 'digribbon.pack' (string expected", pack)
+    failed("bad argument #2 to 'digribbon.unpack' (string expected", unpack, "b", {})
+    failed("bad argument #3 to 'digribbon.unpack' (number expected", unpack, "b", "A", "first")
+    failed("a text has at most 65,535 bytes", pack, "bz", 1, ("A"):rep(65536))
+    failed("invalid option '!'", digribbon.writer, "!")
+    failed("digribbon.writer expected", digribbon.writer().pack, "b")
+    failed("memory", pack, "c9223372036854775000z", "A", "B")
+    refused(1, pack, "c9223372036854775000q", "A")
+end)
+
+---- sizes
+
+test("long records and lists", function()
+    same({ "A" .. ("\0"):rep(99999) }, pack("c100000", "A"))
+    same({ "A" .. ("\0"):rep(99999) .. "B\0A\0" }, pack("c0100000zc2", "A", "B", "A"))
+    same({ ("A"):rep(65535) .. "\0", 1, 1 }, digribbon.writer():pack("z", ("A"):rep(65535)))
+    same({ ("\0"):rep(3000) }, pack(("x"):rep(3000)))
+    local numbers = table.pack(unpack(("B"):rep(200), ("\7"):rep(200)))
+    assert(numbers.n == 201 and numbers[200] == 7 and numbers[201] == 201)
+    local texts = table.pack(unpack(("z"):rep(200), ("\0"):rep(200) .. ("A"):rep(70000)))
+    assert(texts.n == 201 and texts[200] == "" and texts[201] == 201)
+    same({ ("A"):rep(65535), 65538 }, unpack(">s2", "\xFF\xFF" .. ("A"):rep(65535)))
+    failed("too many results", unpack, ("b"):rep(1 << 21), ("\1"):rep(1 << 21))
+end)
+
+test("refusals keep no memory", function()
+    local text = ("A"):rep(65535)
+    collectgarbage()
+    local before = collectgarbage("count")
+    for _ = 1, 200 do
+        refused(13, pack, "z i1", text, 200)
+        refused(17, unpack, ("z"):rep(100) .. "b", ("A\0"):rep(100))
+    end
+    collectgarbage()
+    collectgarbage()
+    assert(collectgarbage("count") < before + 100)
+end)
+
+---- profiles
+
+-- A card whose files change when the outermost transaction commits. A transaction that ends without commit changes
+-- nothing.
+local Transaction = {}
+Transaction.__index = Transaction
+
+local function begin(parent)
+    return setmetatable({ parent = parent, files = {}, state = "open" }, Transaction)
+end
+
+function Transaction:begin() return begin(self) end
+
+function Transaction:write(name, record)
+    assert(self.state == "open", "the transaction is over")
+    self.files[name] = record
+end
+
+function Transaction:commit()
+    assert(self.state == "open", "the transaction is over")
+    for name, record in pairs(self.files) do
+        self.parent.files[name] = record
+    end
+    self.state = "committed"
+end
+
+function Transaction:__close()
+    if self.state == "open" then self.state = "closed" end
+end
+
+test("profile: issue a pass", function()
+    local card, holder, inner_state = { files = {} }, "<!4 I2 B c6", nil
+    do
+        local outer <close> = begin(card)
+        outer:write("size", pack("<I2", packsize(holder)))
+        outer:write("holder", pack(holder, 258, 7, "ANNA"))
+
+        local ok, refusal = pcall(function()
+            local inner <close> = outer:begin()
+            inner_state = inner
+            inner:write("valid", pack("<I2", 8796))
+            inner:write("zone", pack("<i1", 200))
+            inner:commit()
+        end)
+        assert(not ok and refusal.number == 13)
+        assert(inner_state.state == "closed")
+
+        assert(next(card.files) == nil)
+        outer:commit()
+        assert(outer.state == "committed")
+    end
+    same({ "\9\0" }, card.files.size)
+    same({ "\2\1\7ANNA\0\0" }, card.files.holder)
+    assert(card.files.zone == nil and card.files.valid == nil)
+    same({ 258, 7, "ANNA\0\0", 10 }, unpack(holder, card.files.holder))
+end)
+
+test("profile: a refusal in the outer transaction leaves the card", function()
+    local card, outer_state = { files = {} }, nil
+    refused(15, function()
+        local outer <close> = begin(card)
+        outer_state = outer
+        outer:write("holder", pack("<c6", "ANNA"))
+        outer:write("name", pack("<c3", "ANNA"))
+        outer:commit()
+    end)
+    assert(outer_state.state == "closed" and next(card.files) == nil)
+end)
+
+test("profile: a name that arrives late", function()
+    local card = { files = {} }
+    do
+        local outer <close> = begin(card)
+        local writer = digribbon.writer()
+        local front = writer:pack("<!4 I2 B", 258, 7)
+        do
+            local inner <close> = outer:begin()
+            refused(14, writer.pack, writer, "z", "AN\0NA")
+        end
+        local name = writer:pack("z", "ANNA")
+        local tail = writer:pack("I4", 8796)
+        outer:write("pass", front .. name .. tail)
+        outer:commit()
+    end
+    same({ 258, 7, "ANNA", 8796, 13 }, unpack("<!4 I2 B z I4", card.files.pass))
+end)
+
+test("profile: read what lies on a card, record by record", function()
+    local data = pack(">I2I2B", 1, 10, 0) .. pack(">I2I2B", 2, 20, 1) .. "\0"
+    local products, position = {}, 1
+    local refusal = refused(17, function()
+        while position <= #data do
+            local product, issue, state, after = unpack(">I2I2B", data, position)
+            products[product], position = { issue, state }, after
+        end
+    end)
+    assert(refusal.cause == "card data" and position == 11)
+    same({ 10, 0, 20, 1 }, products[1][1], products[1][2], products[2][1], products[2][2])
+end)
+
+test("profile: in a coroutine", function()
+    local issue = coroutine.wrap(function(number)
+        local writer = digribbon.writer()
+        while true do
+            number = coroutine.yield((writer:pack(">I2", number)))
+        end
+    end)
+    same({ "\1\2" }, issue(258))
+    same({ "\1\3" }, issue(259))
+    refused(13, issue, 65536)
+end)
+
+print(("%d tests passed in %s"):format(passed, _VERSION))

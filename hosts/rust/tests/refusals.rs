@@ -1,0 +1,51 @@
+//! The refusals here, in ../include/digribbon.h and in docs/REFUSALS.md are the same.
+
+use digribbon::Error;
+use std::fs;
+use std::path::Path;
+
+fn lines(file: &str) -> Vec<String> {
+    let path = Path::new(env!("CARGO_MANIFEST_DIR")).join(file);
+    let text = fs::read_to_string(&path).unwrap_or_else(|error| panic!("{}: {error}", path.display()));
+    text.lines().map(str::to_string).collect()
+}
+
+/// The lines with a number in the place after `start`.
+fn numbered(file: &str, start: &str) -> Vec<String> {
+    let is_numbered = |line: &String| {
+        line.trim_start().strip_prefix(start).is_some_and(|rest| rest.starts_with(|c: char| c.is_ascii_digit()))
+    };
+    lines(file).into_iter().filter(is_numbered).collect()
+}
+
+#[test]
+fn docs_have_the_same_table() {
+    let table = Error::ALL.iter().map(|error| {
+        let (number, sentence, cause) = (error.number(), error.sentence(), error.cause());
+        format!("| {number} | {sentence} | {cause} |")
+    });
+    assert_eq!(numbered("../../docs/REFUSALS.md", "| "), table.collect::<Vec<_>>());
+}
+
+#[test]
+fn header_has_the_same_table() {
+    let table = Error::ALL.iter().map(|error| {
+        let (number, sentence, cause) = (error.number(), error.sentence(), error.cause());
+        format!("refusal({number}, \"{cause}\", \"{sentence}\")")
+    });
+    let header = numbered("../include/digribbon.h", "refusal(");
+    let header = header.iter().map(|line| line.trim_end_matches('\\').trim().to_string());
+    assert_eq!(header.collect::<Vec<_>>(), table.collect::<Vec<_>>());
+}
+
+#[test]
+fn numbers_lead_back() {
+    for (place, error) in Error::ALL.iter().enumerate() {
+        assert_eq!(error.number(), place as u64 + 1);
+        assert_eq!(Error::from_number(error.number()), Some(*error));
+        assert_eq!(error.to_string(), format!("refusal {}: {}", place + 1, error.sentence()));
+    }
+    assert_eq!(Error::from_number(0), None);
+    assert_eq!(Error::from_number(Error::ALL.len() as u64 + 1), None);
+    assert_eq!(Error::from_number(u64::MAX), None);
+}
