@@ -1,22 +1,22 @@
--- Laws of reading: the loops that gather the low bytes, the loop that passes the bytes above eight, and the answers.
-use Prim.Native.Nat.{ℕ, suc, _+_, _*_, _-_, _%_, _^_, _≤_, _<_}
+-- Laws of reading: the loop that gathers the low bytes, the loop that passes the bytes above eight, and the answers.
+use Prim.Native.Nat.{ℕ, _+_, _*_, _%_, _^_, _≤_, _<_}
 use mathlib.Core.Path.{_≡_, refl, sym, ap, _∙_}
 use mathlib.Core.Bool.{Bool, true, false, _&&_}
 use mathlib.Core.List.{List}
-use native.Mathlib.Nat.{pow-suc, pow-le-pow-right, lt-of-lt-of-le}
+use native.Mathlib.Nat.{pow-le-pow-right, lt-of-lt-of-le}
 use native.Mathlib.Numerals.{add-one}
 use native.Mathlib.Omega.{arith}
 use native.Mathlib.Decide.{decLt}
 use lib.Dec.{eqb, lit<}
 use lib.IntN.{ℤ}
 use lib.ListN.{length, getD, take, drop, drop-of-length-le}
-use lib.Seq.{drop-cons, length-take-le, getD-take}
+use lib.Seq.{drop-cons}
 use borrow.Author.Tests.{eq-eqb, ne-eqb}
 use Rattle.definition.specs.Answers.{refused, accepted, require, _>>_}
 use Rattle.definition.specs.Bytes.{total, sign, signed, low}
 use Rattle.definition.specs.Values.{integer}
 use Rattle.definition.specs.Fields.{all}
-use Rattle.definition.proofs.Bytes.{pow-pos, total-more, length-ordered, length-part, part-at, number-is}
+use Rattle.definition.proofs.Bytes.{total-more, length-ordered, length-part, part-at, number-is}
 use Rattle.coder.specs.Digits.{placeOf, lowestFirst, lowBytes, highBytes}
 use Rattle.coder.specs.Numbers.{unsignedAt, signedAt}
 use Rattle.coder.proofs.Placing.{ordered-at, place-lt, shifted, above-lt}
@@ -25,12 +25,6 @@ use Rattle.coder.proofs.Placing.{ordered-at, place-lt, shifted, above-l
 pub record Gathered (o : Bool) (n : ℕ) (s : List ℕ) (v k : ℕ) : Type 0 where
   pub sum : v ≡ total (take k (lowestFirst o n s))
   pub below : v < 256 ^ k
-  pub within : k ≤ low n
-
--- v is the number of the low bytes from k on
-pub record Rest (o : Bool) (n : ℕ) (s : List ℕ) (v k : ℕ) : Type 0 where
-  pub sum : v ≡ total (drop k (lowBytes o n s))
-  pub below : v < 256 ^ (low n - k)
   pub within : k ≤ low n
 
 -- the bytes above eight and below k are all f, so those from k on decide
@@ -47,23 +41,9 @@ gathered-all {o} {n} {s} {v} {k} g h =
     let e : k ≡ low n = omega arith in
     (g .sum ∙ ap (λ (i : ℕ). total (take i (lowestFirst o n s))) e, rw e at (g .below))
 
-pub rest-all : {o : Bool} {n : ℕ} {s : List ℕ} {v k : ℕ} → Rest o n s v k → k ≡ 0 → (v ≡ total (lowBytes o n s)) × (v < 256 ^ low n)
-rest-all {o} {n} {s} {v} {k} r e =
-    let d : low n - k ≡ low n = omega arith in
-    (r .sum ∙ ap (λ (i : ℕ). total (drop i (lowBytes o n s))) e, rw d at (r .below))
-
 -- at most eight bytes fit 64 bits
-fits : {v k : ℕ} → v < 256 ^ k → k ≤ 8 → v < 2 ^ 64
-fits {v} {k} h l = lt-of-lt-of-le h (pow-le-pow-right (lit< tt) {i = k} {j = 8} l)
-
 pub gathered-fits : {o : Bool} {n : ℕ} {s : List ℕ} {v k : ℕ} → Gathered o n s v k → v < 2 ^ 64
-gathered-fits g = fits (g .below) (omega arith)
-
-pub rest-fits : {o : Bool} {n : ℕ} {s : List ℕ} {v k : ℕ} → Rest o n s v k → v < 2 ^ 64
-rest-fits r = fits (r .below) (omega arith)
-
-pub rest-room : {o : Bool} {n : ℕ} {s : List ℕ} {v k : ℕ} → Rest o n s v k → 0 < k → v * 256 < 2 ^ 64
-rest-room {n = n} {k = k} r h = fits {k = suc (low n - k)} (rw (pow-suc 256 (low n - k)) (omega (arith, r .below))) (omega arith)
+gathered-fits {k = k} g = lt-of-lt-of-le (g .below) (pow-le-pow-right (lit< tt) {i = k} {j = 8} (omega arith))
 
 -- an integer of n bytes, in the order o, stands at `at` in d
 pub record Inside (o : Bool) (n at : ℕ) (d : List ℕ) : Type 0 where
@@ -94,32 +74,6 @@ module _ {o : Bool} {n at : ℕ} {d : List ℕ} (i : Inside o n at d) where
         below = above-lt v b k (g .below) u;
         within = omega arith;
       })
-
-  length-low : length (lowBytes o n (drop at d)) ≡ low n
-  length-low = length-take-le (low n) (lowestFirst o n (drop at d)) (omega (arith, length-all))
-
-  pub rest-none : Rest o n (drop at d) 0 (low n)
-  unfolding total
-  rest-none =
-      record {
-        sum = sym (ap total (drop-of-length-le (lowBytes o n (drop at d)) {i = low n} (omega (arith, length-low))));
-        below = pow-pos (low n - low n);
-        within = omega arith;
-      }
-
-  -- the byte j below k, which stands at p, is put below
-  pub rest-more : {v k j p b : ℕ} → Rest o n (drop at d) v k → k ≡ suc j → p ≡ placeOf o n j → b ≡ getD d (at + p) 0 → b < 256 → Rest o n (drop at d) (v * 256 + b) j
-  unfolding total
-  rest-more {v} {k} {j} {p} {b} r s e f u =
-      let l : List ℕ = lowBytes o n (drop at d) in
-      let x : getD l j 0 ≡ b = getD-take (low n) (lowestFirst o n (drop at d)) j 0 (omega arith) ∙ byte-at j p (omega arith) e ∙ sym f in
-      let h : total (drop j l) ≡ total (drop (suc j) l) * 256 + getD l j 0 = ap total (drop-cons l j 0 (omega (arith, length-low))) in
-      let q : low n - j ≡ suc (low n - k) = omega arith in
-      record {
-        sum = cc (h, x, r .sum);
-        below = rw (q, pow-suc 256 (low n - k)) (omega (arith, r .below));
-        within = omega arith;
-      }
 
   past : (f k : ℕ) → n ≤ k → all f (drop k (lowestFirst o n (drop at d))) ≡ true
   past f k l = ap (all f) (drop-of-length-le (lowestFirst o n (drop at d)) {i = k} (omega (arith, length-all)))

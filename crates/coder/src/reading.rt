@@ -52,32 +52,24 @@ fn get_bytes(data: &[u8], at: usize, size: usize, big: bool) -> u64
     word
 }
 
-// The same from the highest byte down, which takes few registers.
-fn get_any(data: &[u8], at: usize, size: usize, big: bool) -> u64
-    requires { ⌜ at + size ≤ length (now «data») ⌝ }
-    ensures { λ r. ⌜ (r ≡ total (lowBytes big size (drop at (now («data» .entry))))) × (r < 256 ^ low size) ⌝ }
-{
-    let mut word: u64 = 0;
-    let mut k = low(size);
-    while k > 0 {
-        k -= 1;
-        word = word * 256 + wide(data[at + place(big, size, k)]);
-    }
-    word
-}
-
 // The number that the low bytes write: of size bytes, the lowest eight. Where the size is a constant, the loop of
-// `get_bytes` becomes one load.
+// `get_bytes` becomes one load. One match on the four sizes would become a jump table, which costs more.
 pub fn get_word(data: &[u8], at: usize, size: usize, big: bool) -> u64
     requires { ⌜ at + size ≤ length (now «data») ⌝ }
     ensures { λ r. ⌜ (r ≡ total (lowBytes big size (drop at (now («data» .entry))))) × (r < 256 ^ low size) ⌝ }
 {
-    match size {
-        1 => get_bytes(data, at, 1, big),
-        2 => get_bytes(data, at, 2, big),
-        4 => get_bytes(data, at, 4, big),
-        8 => get_bytes(data, at, 8, big),
-        _ => get_any(data, at, size, big),
+    if size < 3 {
+        match size {
+            1 => get_bytes(data, at, 1, big),
+            2 => get_bytes(data, at, 2, big),
+            _ => get_bytes(data, at, size, big),
+        }
+    } else {
+        match size {
+            4 => get_bytes(data, at, 4, big),
+            8 => get_bytes(data, at, 8, big),
+            _ => get_bytes(data, at, size, big),
+        }
     }
 }
 

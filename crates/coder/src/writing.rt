@@ -32,17 +32,24 @@ fn put_bytes(out: &mut [u8], at: usize, size: usize, big: bool, word: u64, fill:
 }
 
 // Writes an integer of size bytes at `at`: the low bytes of a word, and above eight the fill. Where the size is a
-// constant, the loop of `put_bytes` becomes one store.
+// constant, the loop of `put_bytes` becomes one store. One match on the four sizes would become a jump table, which costs
+// more.
 pub fn put(out: &mut [u8], at: usize, size: usize, big: bool, word: u64, fill: u8)
     requires { ⌜ at + size ≤ length (now out) ⌝ }
     ensures { λ _. ⌜ now (out .exit) ≡ paste (now (out .entry)) at (laid big size word fill) size ⌝ }
 {
-    match size {
-        1 => put_bytes(out, at, 1, big, word, fill),
-        2 => put_bytes(out, at, 2, big, word, fill),
-        4 => put_bytes(out, at, 4, big, word, fill),
-        8 => put_bytes(out, at, 8, big, word, fill),
-        _ => put_bytes(out, at, size, big, word, fill),
+    if size < 3 {
+        match size {
+            1 => put_bytes(out, at, 1, big, word, fill),
+            2 => put_bytes(out, at, 2, big, word, fill),
+            _ => put_bytes(out, at, size, big, word, fill),
+        }
+    } else {
+        match size {
+            4 => put_bytes(out, at, 4, big, word, fill),
+            8 => put_bytes(out, at, 8, big, word, fill),
+            _ => put_bytes(out, at, size, big, word, fill),
+        }
     }
 }
 

@@ -109,11 +109,10 @@ fn value_at(list: &[u8], at: usize) -> Field
         return Field::Found(Value::Other, start);
     }
     let b = number_at(list, start, 8);
-    let next = start + 8;
     if tag == TAG_INTEGER {
-        return Field::Found(Value::Integer(to_signed(b)), next);
+        return Field::Found(Value::Integer(to_signed(b)), start + 8);
     }
-    Field::Found(float_of(b), next)
+    Field::Found(float_of(b), start + 8)
 }
 
 // The field at an offset of a list that is well formed from there on.

@@ -29,8 +29,8 @@ add-number-at c = search needs
 number-at-requires : tie.Need-number-at-requires
 number-at-requires c κs = let a = c .before .before .before in (lit≤ tt, omega (arith, not-cut-short (now (a .args .list)) (a .args .at) (a .pre .1) (a .pre .0)))
 
-add-t12 : tie.Need-add-t12
-add-t12 c = search needs
+add-t11 : tie.Need-add-t11
+add-t11 c = search needs
 
 returns : tie.Need-returns
 returns c =
@@ -51,11 +51,11 @@ eight c = let a = c .before .before .before .before in number-eight (now (a .arg
 number-at-requires-2 : tie.Need-number-at-requires-2
 number-at-requires-2 c κs = (lit≤ tt, omega (arith, eight c, whole (c .before .before .before .before) .complete .within))
 
-add-next : tie.Need-add-next
-add-next c = search needs
-
 to-signed-requires : tie.Need-to-signed-requires
 to-signed-requires c κs = search needs
+
+add-t16 : tie.Need-add-t16
+add-t16 c = search needs
 
 returns-3 : tie.Need-returns-3
 returns-3 c =
@@ -67,6 +67,9 @@ returns-3 c =
 
 float-of-requires : tie.Need-float-of-requires
 float-of-requires c κs = search needs
+
+add-t18 : tie.Need-add-t18
+add-t18 c = search needs
 
 returns-4 : tie.Need-returns-4
 returns-4 c =
@@ -83,12 +86,13 @@ value-at-spec =
     add-start
     add-number-at
     number-at-requires
-    add-t12
+    add-t11
     returns
     returns-2
     number-at-requires-2
-    add-next
     to-signed-requires
+    add-t16
     returns-3
     float-of-requires
+    add-t18
     returns-4)

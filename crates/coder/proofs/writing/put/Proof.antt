@@ -18,6 +18,9 @@ put-bytes-requires-4 c κs = search needs
 put-bytes-requires-5 : tie.Need-put-bytes-requires-5
 put-bytes-requires-5 c κs = search needs
 
+put-bytes-requires-6 : tie.Need-put-bytes-requires-6
+put-bytes-requires-6 c κs = search needs
+
 same-length : tie.Need-same-length
 same-length c = search needs
 
@@ -34,19 +37,25 @@ same-length-3 : tie.Need-same-length-3
 same-length-3 c = search needs
 
 returns-3 : tie.Need-returns-3
-returns-3 c = rw (c .before .before .before .before .match .keys3) (c .before .before .put-bytes3 .ensures)
+returns-3 c = search needs
 
 same-length-4 : tie.Need-same-length-4
 same-length-4 c = search needs
 
 returns-4 : tie.Need-returns-4
-returns-4 c = rw (c .before .before .before .before .match .keys4) (c .before .before .put-bytes4 .ensures)
+returns-4 c = rw (c .before .before .before .before .match2 .keys1) (c .before .before .put-bytes4 .ensures)
 
 same-length-5 : tie.Need-same-length-5
 same-length-5 c = search needs
 
 returns-5 : tie.Need-returns-5
-returns-5 c = search needs
+returns-5 c = rw (c .before .before .before .before .match2 .keys2) (c .before .before .put-bytes5 .ensures)
+
+same-length-6 : tie.Need-same-length-6
+same-length-6 c = search needs
+
+returns-6 : tie.Need-returns-6
+returns-6 c = search needs
 
 pub put-spec : {M : Type 1} → statement M
 put-spec =
@@ -57,6 +66,7 @@ put-spec =
     put-bytes-requires-3
     put-bytes-requires-4
     put-bytes-requires-5
+    put-bytes-requires-6
     same-length
     returns
     same-length-2
@@ -66,4 +76,6 @@ put-spec =
     same-length-4
     returns-4
     same-length-5
-    returns-5)
+    returns-5
+    same-length-6
+    returns-6)
