@@ -13,6 +13,7 @@ use crate::write::Written;
 use std::collections::{BTreeSet, HashSet};
 use std::fs;
 use std::process::ExitCode;
+use std::slice;
 
 const HEADER: &str = "\
 # Recorded answers of the original, crates/luars/src/stdlib/string/pack.rs of lua-rs, unchanged.
@@ -151,9 +152,9 @@ fn list_of(values: &[Value]) -> String {
         Value::Integer(integer) => format!("i{integer}"),
         Value::Float(bits) => format!("02 00 08 {bits:016X}"),
         Value::Text(text) if !text.is_empty() && text.len() < 64 && text.iter().all(is_plain) => {
-            format!("{} {}", bytes_of(&encode(&[value.clone()])[..3]), text_of(text))
+            format!("{} {}", bytes_of(&encode(slice::from_ref(value))[..3]), text_of(text))
         }
-        _ => bytes_of(&encode(&[value.clone()])),
+        _ => bytes_of(&encode(slice::from_ref(value))),
     });
     fields.collect::<Vec<_>>().join(" ")
 }
