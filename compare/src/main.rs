@@ -26,7 +26,7 @@ compare COMMAND [NAME=NUMBER]..    (in brackets: what a number is if it isn't gi
   write       seed [1], cases [6000000], cap [100000]: the longest c that the original may fill
   read        seed [1], cases [6000000]
   properties  seed [1], cases [1000000]: ours alone
-  record      DIRECTORY: writes the original's answers as measure.bin, write.bin and read.bin
+  record      FILE: writes the original's answers to a fixed list of calls
   bench       instructions by call under valgrind, beside the original and Lua 5.4 where it is installed";
 
 fn main() -> ExitCode {

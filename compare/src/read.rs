@@ -76,7 +76,7 @@ pub fn run(seed: u64, cases: u64) -> ExitCode {
 }
 
 /// A written record, whole, damaged or cut; or random data; or short data at every start.
-fn some_readings(random: &mut Random, writer: &mut Original) -> Vec<Reading> {
+pub fn some_readings(random: &mut Random, writer: &mut Original) -> Vec<Reading> {
     let spare = random.among(1, 40);
     let lacking = if random.one_in(2) { 1 } else { random.among(1, 40) };
     match random.below(60) {

@@ -1,77 +1,162 @@
-//! The original's answers to a fixed list of calls, in files that a program of ours can replay.
+//! The original's answers to a fixed list of calls, as the text that our program `replay` reads: crates/replay/src/main.rt
+//! begins with its form, crates/notation/src/lib.rt with that of bytes.
 //!
-//! Each file is: the number of its cases in two bytes, then the cases. Every number is big-endian. A run of bytes is
-//! its length in two bytes, then the bytes. A verdict is one byte: 0 accepted, 1 refused. A case is
-//! - in measure.bin: the format, the verdict, the size in eight bytes (0 where it is refused);
-//! - in write.bin: the format, the value list, the verdict, the record (empty where it is refused);
-//! - in read.bin: the format, the data, the start in eight bytes (two's complement), the verdict, the value list (empty
-//!   where it is refused), the next position in eight bytes (0 where it is refused).
-//!
-//! A replay compares refusals only as refusals. No case has a NaN from f, so all else is the same to the bit.
-//! A file is shorter than 65,536 bytes.
+//! A replay compares refusals only as refusals. No case has a NaN from reading f, so all else is the same to the bit.
 
 use crate::domain::{self, Verdict};
+use crate::r#gen::{self, Random, Use};
 use crate::items::items;
 use crate::original::{Original, Outcome};
+use crate::read::some_readings;
 use crate::value::{Value, encode};
-use std::collections::BTreeSet;
+use crate::write::Written;
+use std::collections::{BTreeSet, HashSet};
 use std::fs;
-use std::path::Path;
 use std::process::ExitCode;
+use std::slice;
 
-pub fn run(directory: &str) -> ExitCode {
-    let mut original = Original::default();
-    let files = [
-        ("measure.bin", measured(&mut original)),
-        ("write.bin", written(&mut original)),
-        ("read.bin", read(&mut original)),
-    ];
-    for (name, file) in files {
-        let path = Path::new(directory).join(name);
-        if let Err(why) = fs::create_dir_all(directory).and_then(|()| fs::write(&path, file.bytes())) {
-            eprintln!("compare: {} can't be written: {why}", path.display());
-            return ExitCode::FAILURE;
-        }
-        let (cases, accepted) = (file.cases.len(), file.accepted);
-        println!("{}: {cases} cases, {accepted} accepted, {} bytes", path.display(), file.bytes().len());
-        // z and s can't be measured
-        let options = OPTIONS.chars().filter(|option| name != "measure.bin" || !"zs".contains(*option));
-        let missing: Vec<char> = options.filter(|option| !file.options.contains(&(*option as u8))).collect();
-        assert!(missing.is_empty(), "an accepted case has each option, but not {missing:?}");
+const HEADER: &str = "\
+# Recorded answers of the original, crates/luars/src/stdlib/string/pack.rs of lua-rs, unchanged.
+# Made by: compare/run record crates/replay/stdin
+";
+
+pub fn run(path: &str) -> ExitCode {
+    let mut recording = Recording { text: HEADER.to_string(), ..Recording::default() };
+    measured(&mut recording);
+    written(&mut recording);
+    read(&mut recording);
+    for (call, unmeasured) in [("m", "zs"), ("w", ""), ("r", "")] {
+        let lacks =
+            |option: &char| !recording.options.contains(&(call, *option as u8)) && !unmeasured.contains(*option);
+        let missing: Vec<char> = OPTIONS.chars().filter(lacks).collect();
+        assert!(missing.is_empty(), "an accepted case of {call} has each option, but not {missing:?}");
     }
+    if let Err(why) = fs::write(path, &recording.text) {
+        eprintln!("compare: {path} can't be written: {why}");
+        return ExitCode::FAILURE;
+    }
+    println!("{path}: {} cases, {} accepted", recording.lines.len(), recording.accepted);
     ExitCode::SUCCESS
 }
 
 const OPTIONS: &str = "bBhHiIlLjJTfdnczsxX<>=! ";
 
-/// The cases of a file, and the options that stand in an accepted one.
+/// The longest run of bytes in a case: the buffers of the program are longer, so that it sees bytes behind a result.
+const LONGEST: usize = 400;
+
+/// The cases so far, each once, and the options that stand in an accepted one of each call.
 #[derive(Default)]
-struct File {
-    cases: BTreeSet<Vec<u8>>,
+struct Recording {
+    original: Original,
+    text: String,
+    lines: HashSet<String>,
     accepted: usize,
-    options: BTreeSet<u8>,
+    options: BTreeSet<(&'static str, u8)>,
 }
 
-impl File {
-    fn add(&mut self, format: &[u8], accepted: bool, case: Vec<u8>) {
-        if self.cases.insert(case) && accepted {
+impl Recording {
+    fn group(&mut self, name: &str) {
+        self.text += &format!("# {name}\n");
+    }
+
+    fn add(&mut self, call: &'static str, format: &[u8], arguments: &[String], answer: Option<Vec<String>>) {
+        let text = text_of(format);
+        let mut words = vec![call, &text];
+        words.extend(arguments.iter().flat_map(|argument| ["/", argument]));
+        words.push(if answer.is_some() { "=" } else { "!" });
+        words.extend(answer.iter().flatten().enumerate().flat_map(|(i, part)| [if i > 0 { "/" } else { "" }, part]));
+        words.retain(|word| !word.is_empty());
+        let line = words.join(" ");
+        if !self.lines.insert(line.clone()) {
+            return;
+        }
+        self.text += &format!("{line}\n");
+        if answer.is_some() {
             self.accepted += 1;
-            self.options.extend(items(format).iter().map(|item| item.option));
+            self.options.extend(items(format).iter().map(|item| (call, item.option)));
         }
     }
 
-    fn bytes(&self) -> Vec<u8> {
-        let count = u16::try_from(self.cases.len()).expect("the number of cases has two bytes");
-        let mut bytes = count.to_be_bytes().to_vec();
-        bytes.extend(self.cases.iter().flatten());
-        assert!(bytes.len() < 65_536, "a file of answers is shorter than 65,536 bytes");
-        bytes
+    fn measure(&mut self, format: &[u8]) {
+        if format.len() > LONGEST || !matches!(domain::measuring(&mut self.original, format), Verdict::Inside) {
+            return;
+        }
+        match self.original.packsize(format) {
+            Outcome::Accepted(size) => self.add("m", format, &[], Some(vec![size.to_string()])),
+            Outcome::Refused => self.add("m", format, &[], None),
+            Outcome::Panicked => {}
+        }
+    }
+
+    fn write(&mut self, format: &[u8], values: &[Value]) {
+        let list = encode(values);
+        let inside = domain::writing(&mut self.original, format, &list, values, LONGEST as u64);
+        if format.len().max(list.len()) > LONGEST || !matches!(inside, Verdict::Inside) {
+            return;
+        }
+        let arguments = [list_of(values)];
+        match self.original.pack(format, values) {
+            Outcome::Accepted(record) if record.len() > LONGEST => {}
+            Outcome::Accepted(record) => self.add("w", format, &arguments, Some(vec![bytes_of(&record)])),
+            Outcome::Refused => self.add("w", format, &arguments, None),
+            Outcome::Panicked => {}
+        }
+    }
+
+    fn read(&mut self, format: &[u8], data: &[u8], start: i64) {
+        let inside = domain::reading(&mut self.original, format, data, start);
+        if format.len().max(data.len()) > LONGEST || !matches!(inside, Verdict::Inside) {
+            return;
+        }
+        let arguments = [bytes_of(data), start.to_string()];
+        let single = items(format).iter().any(|item| item.option == b'f');
+        match self.original.unpack(format, data, start) {
+            Outcome::Accepted((values, _)) if single && values.iter().any(Value::is_nan) => {}
+            Outcome::Accepted((values, _)) if encode(&values).len() > LONGEST => {}
+            Outcome::Accepted((values, next)) => {
+                self.add("r", format, &arguments, Some(vec![list_of(&values), next.to_string()]));
+            }
+            Outcome::Refused => self.add("r", format, &arguments, None),
+            Outcome::Panicked => {}
+        }
     }
 }
 
-fn run_of(bytes: &[u8]) -> Vec<u8> {
-    let length = u16::try_from(bytes.len()).expect("a run's length has two bytes");
-    [&length.to_be_bytes(), bytes].concat()
+// ---- bytes in the notation of our programs
+
+fn is_plain(byte: &u8) -> bool {
+    matches!(byte, b' '..=b'~') && *byte != b'"'
+}
+
+/// Bytes as a text between quotes, with those that it can't have in hexadecimal.
+fn text_of(bytes: &[u8]) -> String {
+    let pieces = bytes.chunk_by(|a, b| is_plain(a) && is_plain(b)).map(|piece| match piece {
+        [byte] if !is_plain(byte) => format!("{byte:02X}"),
+        _ => format!("\"{}\"", String::from_utf8_lossy(piece)),
+    });
+    if bytes.is_empty() { "\"\"".to_string() } else { pieces.collect::<Vec<_>>().join(" ") }
+}
+
+/// Bytes in hexadecimal, five or more equal ones by their number.
+fn bytes_of(bytes: &[u8]) -> String {
+    let pieces = bytes.chunk_by(|a, b| a == b).flat_map(|piece| match piece.len() {
+        0..5 => piece.iter().map(|byte| format!("{byte:02X}")).collect(),
+        count => vec![format!("{:02X}*{count}", piece[0])],
+    });
+    pieces.collect::<Vec<_>>().join(" ")
+}
+
+/// The value list of some values: integers as numbers, other fields by their bytes, a text in quotes where it can be.
+fn list_of(values: &[Value]) -> String {
+    let fields = values.iter().map(|value| match value {
+        Value::Integer(integer) => format!("i{integer}"),
+        Value::Float(bits) => format!("02 00 08 {bits:016X}"),
+        Value::Text(text) if !text.is_empty() && text.len() < 64 && text.iter().all(is_plain) => {
+            format!("{} {}", bytes_of(&encode(slice::from_ref(value))[..3]), text_of(text))
+        }
+        _ => bytes_of(&encode(slice::from_ref(value))),
+    });
+    fields.collect::<Vec<_>>().join(" ")
 }
 
 // ---- formats that bring up each option, size, alignment, limit and refusal
@@ -98,6 +183,16 @@ fn each_alignment() -> Vec<String> {
 }
 
 const LIMITS: [&str; 6] = ["", "!2", "!4", "!", "!8", "!16"];
+
+/// What takes a numeral, with numerals at every limit.
+fn each_numeral() -> Vec<String> {
+    let mut numerals: Vec<String> = (0..=18).map(|n| n.to_string()).collect();
+    numerals.extend([32, 255, 256, u64::MAX - 1, u64::MAX].map(|n| n.to_string()));
+    numerals.extend(["000", "0016", "00000000000000000000000001", "18446744073709551616"].map(String::from));
+    numerals.extend(["18446744073709551617", "99999999999999999999", "100000000000000000000000000"].map(String::from));
+    let takers = ["i", "I", "l", "L", "s", "!", "c", "Xi", "XI", "Xl", "XL", "Xf"];
+    takers.iter().flat_map(|taker| numerals.iter().map(move |numeral| format!("{taker}{numeral}"))).collect()
+}
 
 /// Formats that are refused, or are just not.
 const EDGES: &[&str] = &[
@@ -174,36 +269,45 @@ const EDGES: &[&str] = &[
 
 // ---- measuring
 
-fn measured(original: &mut Original) -> File {
-    let mut formats: Vec<String> = EDGES.iter().map(|format| format.to_string()).collect();
-    for limit in LIMITS {
-        formats.extend(each_option().iter().map(|option| format!("{limit}b{option}")));
-        formats.extend(each_alignment().iter().map(|alignment| format!("{limit}bbb{alignment}")));
-    }
-    for more in ["", "b", "x", "c0", "c1", "h", "Xi", "!8Xd", "!2Xh", "i16"] {
-        formats.extend([0, 1, 2, 15, 16].map(|less| format!("c{}{more}", i64::MAX - less)));
-    }
-    formats.push(format!("c{}c{}", 1_u64 << 62, (1_u64 << 62) - 1));
-    formats.push(format!("c{}c{}", 1_u64 << 62, 1_u64 << 62));
-    let mut file = File::default();
-    for format in formats.iter().map(String::as_bytes) {
-        if !matches!(domain::measuring(original, format), Verdict::Inside) {
-            continue;
+fn measured(recording: &mut Recording) {
+    recording.group("measuring: each option at each limit and offset");
+    for (limit, before) in LIMITS.iter().flat_map(|limit| ["", "b", "bbb"].map(|before| (limit, before))) {
+        for item in each_option().iter().chain(&each_alignment()) {
+            recording.measure(format!("{limit}{before}{item}").as_bytes());
         }
-        let size = match original.packsize(format) {
-            Outcome::Accepted(size) => Some(size as u64),
-            Outcome::Refused => None,
-            Outcome::Panicked => continue,
-        };
-        let case = [run_of(format), vec![u8::from(size.is_none())], size.unwrap_or(0).to_be_bytes().to_vec()];
-        file.add(format, size.is_some(), case.concat());
     }
-    file
+    recording.group("measuring: each byte, alone, behind b and behind X");
+    for byte in 0..128 {
+        for before in [&b""[..], b"b", b"X", b"!4bX"] {
+            recording.measure(&[before, &[byte]].concat());
+        }
+    }
+    recording.group("measuring: pairs of items");
+    let items = ["b", "h", "i", "i3", "l16", "j", "f", "d", "c3", "x", "Xi", "Xd", "<", ">", "=", " ", "!2", "!"];
+    for (first, second) in items.iter().flat_map(|first| items.map(|second| (first, second))) {
+        recording.measure(format!("!4b{first}{second}").as_bytes());
+    }
+    recording.group("measuring: numerals, and what is refused");
+    for format in each_numeral().iter().map(String::as_str).chain(EDGES.iter().copied()) {
+        recording.measure(format.as_bytes());
+    }
+    recording.group("measuring: lengths about 2^63-1");
+    for more in ["", "b", "x", "c0", "c1", "h", "Xi", "!8Xd", "!2Xh", "i16", "q", "!4i3"] {
+        for less in [0, 1, 2, 15, 16] {
+            recording.measure(format!("c{}{more}", i64::MAX - less).as_bytes());
+        }
+    }
+    for second in [(1_u64 << 62) - 1, 1 << 62] {
+        recording.measure(format!("c{}c{second}", 1_u64 << 62).as_bytes());
+    }
+    recording.group("measuring: random formats");
+    let mut random = Random::new(1);
+    for _ in 0..400 {
+        recording.measure(&r#gen::format(&mut random, Use::Measuring));
+    }
 }
 
 // ---- writing
-
-const CAP: u64 = 4096;
 
 /// Integers at the limits of n bytes.
 fn limits_of(size: u32) -> Vec<i64> {
@@ -251,183 +355,227 @@ fn text(bytes: &[u8]) -> Value {
     Value::Text(bytes.to_vec())
 }
 
-/// Formats with one value each.
-fn single_writes() -> Vec<(String, Value)> {
+/// Each integer option and size, with the integers at its limits.
+fn integer_writes() -> Vec<(String, Value)> {
     let mut all = Vec::new();
-    for (number, option) in ["b", "B", "h", "H", "j", "J", "T"].into_iter().enumerate() {
-        let order = if number % 2 == 0 { "<" } else { ">" };
-        for size in [1, 2, 8] {
-            all.extend(limits_of(size).iter().map(|integer| (format!("{order}{option}"), Value::Integer(*integer))));
+    for option in ["<b", ">B", "<h", ">h", "<H", ">H", "<j", ">J", "<T", ">T"] {
+        for integer in [1, 2, 8].into_iter().flat_map(limits_of) {
+            all.push((option.to_string(), Value::Integer(integer)));
         }
     }
     for size in 1..=16 {
-        let options = [("i", "<"), ("I", ">"), ("l", ">"), ("L", "<")];
-        for (option, order) in &options[..if matches!(size, 1 | 3 | 8 | 16) { 4 } else { 2 }] {
-            let limits = limits_of(size.min(8));
-            all.extend(limits.iter().map(|integer| (format!("{order}{option}{size}"), Value::Integer(*integer))));
+        for (option, order) in [("i", "<"), ("I", ">"), ("l", ">"), ("L", "<")] {
+            let limits = limits_of(size.min(8)).into_iter();
+            all.extend(limits.map(|integer| (format!("{order}{option}{size}"), Value::Integer(integer))));
         }
     }
-    for option in ["<f", ">f", "<d", ">n", ">j", "<J", "<T"] {
-        all.extend(floats().into_iter().map(|float| (option.to_string(), float)));
+    for option in ["i", "I", "l", "L"] {
+        all.extend(limits_of(4).into_iter().map(|integer| (option.to_string(), Value::Integer(integer))));
     }
-    for option in ["<d", ">n", "<j", ">T"] {
-        all.extend(nans().into_iter().map(|nan| (option.to_string(), nan)));
+    all
+}
+
+/// Floats for each option that takes numbers, and integers for those that make floats of them.
+fn float_writes() -> Vec<(String, Value)> {
+    let mut all = Vec::new();
+    for option in ["<f", ">f", "<d", ">n", ">j", "<J", "<T", ">T"] {
+        all.extend(floats().into_iter().chain(nans()).map(|float| (option.to_string(), float)));
     }
     for integer in [0, 1, -1, 1_152_921_573_326_323_713, i64::MAX, i64::MIN, (1 << 53) + 1] {
         all.extend(["f", "d", ">n"].map(|option| (option.to_string(), Value::Integer(integer))));
     }
     for float in [0.0, -0.0, 1.0, -1.0, 200.0, 0.5, 65_536.0, 9.3e18] {
-        all.extend(["b", "H", "i1", "I2", "i", "j", "J", "T"].map(|option| (option.to_string(), Value::float(float))));
+        let options = ["b", "B", "h", "H", "i1", "I2", "i", "L", "l9", "j", "J", "T"];
+        all.extend(options.map(|option| (option.to_string(), Value::float(float))));
     }
+    all
+}
+
+fn text_writes() -> Vec<(String, Value)> {
     let texts: [&[u8]; 5] = [b"", b"A", b"AB", b"A\0B", b"\xFF\x80ABC"];
+    let mut all = Vec::new();
     for format in ["c0", "c1", "c2", "c3", "c7", "z", "s", "s1", "<s2", ">s2", "<s9", ">s16", "s3z"] {
         all.extend(texts.map(|bytes| (format.to_string(), text(bytes))));
     }
     all.extend([254, 255, 256, 257].map(|length| ("s1".to_string(), text(&vec![b'x'; length]))));
     all.extend([255, 256].map(|length| (">s2".to_string(), text(&vec![b'y'; length]))));
-    for option in "bBhHiIlLjJTfdnczs".chars() {
-        let format = if option == 'c' { "c4".to_string() } else { option.to_string() };
-        all.extend(
-            [text(b"A"), Value::Integer(1), Value::float(0.5), Value::Other].map(|value| (format.clone(), value)),
-        );
+    all.extend([255, 256, 257].map(|length| ("c256".to_string(), text(&vec![b'z'; length]))));
+    all
+}
+
+/// Each option at each limit, behind one byte and behind three, with a byte after it.
+fn aligned_writes() -> Vec<(String, Vec<Value>)> {
+    let mut all = Vec::new();
+    for (limit, before) in LIMITS.iter().flat_map(|limit| ["b", "c3"].map(|before| (limit, before))) {
+        let first = if before == "b" { Value::Integer(7) } else { text(b"ABC") };
+        for item in each_option() {
+            let value = if item.starts_with(['c', 'z', 's']) { text(b"") } else { Value::Integer(1) };
+            let values = if item == "x" { vec![] } else { vec![value] };
+            all.push((
+                format!("{limit}{before}{item}b"),
+                [vec![first.clone()], values, vec![Value::Integer(-1)]].concat(),
+            ));
+        }
+        for alignment in each_alignment() {
+            all.push((format!("{limit}{before}{alignment}B"), vec![first.clone(), Value::Integer(254)]));
+        }
     }
     all
 }
 
-/// Formats with several values: alignment, order, too few and too many values, edges.
+/// Each kind of value for each option, and none.
+fn kind_writes() -> Vec<(String, Vec<Value>)> {
+    let options =
+        "bBhHiIlLjJTfdnczs".chars().map(|option| if option == 'c' { "c4".into() } else { option.to_string() });
+    let kinds = [text(b"A"), Value::Integer(1), Value::float(0.5), Value::float(1.0), Value::Other];
+    let lists = kinds.map(|kind| vec![kind]).into_iter().chain([vec![]]);
+    options.flat_map(|option| lists.clone().map(move |list| (option.clone(), list))).collect()
+}
+
+/// Several values, too few and too many, orders, numerals and what is refused.
 fn other_writes() -> Vec<(String, Vec<Value>)> {
-    let mut all = Vec::new();
-    for limit in LIMITS {
-        for (number, option) in each_option().into_iter().enumerate() {
-            let keep = number % 3 == 0 || option.len() == 1;
-            if keep && !limit.is_empty() {
-                let value = if option.starts_with(['c', 'z', 's']) { text(b"") } else { Value::Integer(1) };
-                all.push((format!("{limit}b{option}"), vec![Value::Integer(7), value]));
-            }
-        }
-        for alignment in each_alignment() {
-            all.push((format!("{limit}B{alignment}B"), vec![Value::Integer(255), Value::Integer(254)]));
-        }
+    let integers = |count: i64| (1..=count).map(Value::Integer).collect::<Vec<_>>();
+    let mut all: Vec<(String, Vec<Value>)> = Vec::new();
+    for format in each_numeral().iter().map(String::as_str).chain(EDGES.iter().copied()) {
+        let textual = format.starts_with(['c', 's']);
+        all.push((format.to_string(), if textual { vec![text(b"AB")] } else { integers(6) }));
+        all.push((format.to_string(), vec![]));
     }
-    for edge in EDGES {
-        all.push((edge.to_string(), vec![Value::Integer(1), Value::Integer(2), Value::Integer(3), Value::Integer(4)]));
-    }
-    all.push(("bb".to_string(), vec![Value::Integer(1)]));
-    all.push(("b".to_string(), vec![]));
-    all.push(("!4i3".to_string(), vec![]));
+    all.extend(["bb", "bbb", "<i2>i2=i2", "!4i3", "!4b i3"].map(|format| (format.to_string(), integers(2))));
+    all.push(("<i2>i2=i2".to_string(), integers(3)));
     all.push(("zs1c2".to_string(), vec![text(b"A"), text(b"B"), text(b"C"), Value::Other]));
-    all.push(("<i2>i2=i2".to_string(), [1, 2, 3].map(Value::Integer).to_vec()));
     all.push(("s2 z c64".to_string(), vec![text(b"name"), text(b"place"), text(b"profile")]));
     all
 }
 
-fn written(original: &mut Original) -> File {
-    let mut writes = other_writes();
-    writes.extend(single_writes().into_iter().map(|(format, value)| (format, vec![value])));
-    let mut file = File::default();
-    for (format, values) in writes {
-        let (format, list) = (format.as_bytes(), encode(&values));
-        if !matches!(domain::writing(original, format, &list, &values, CAP), Verdict::Inside) {
-            continue;
-        }
-        let record = match original.pack(format, &values) {
-            Outcome::Accepted(record) => Some(record),
-            Outcome::Refused => None,
-            Outcome::Panicked => continue,
-        };
-        let verdict = vec![u8::from(record.is_none())];
-        let accepted = record.is_some();
-        let case = [run_of(format), run_of(&list), verdict, run_of(&record.unwrap_or_default())];
-        file.add(format, accepted, case.concat());
+fn written(recording: &mut Recording) {
+    let groups = [
+        ("writing: integers at the limits of each size", integer_writes()),
+        ("writing: floats, and numbers of the other kind", float_writes()),
+        ("writing: texts", text_writes()),
+    ];
+    for (name, writes) in groups {
+        recording.group(name);
+        writes.into_iter().for_each(|(format, value)| recording.write(format.as_bytes(), &[value]));
     }
-    file
+    let groups = [
+        ("writing: each kind of value for each option", kind_writes()),
+        ("writing: each option at each limit and offset", aligned_writes()),
+        ("writing: numerals, and what is refused", other_writes()),
+    ];
+    for (name, writes) in groups {
+        recording.group(name);
+        writes.iter().for_each(|(format, values)| recording.write(format.as_bytes(), values));
+    }
+    recording.group("writing: random formats and values");
+    let mut random = Random::new(2);
+    for _ in 0..600 {
+        let case = Written::random(&mut random, Use::Writing);
+        recording.write(&case.format, &case.values);
+    }
 }
 
 // ---- reading
 
-fn readings(original: &mut Original) -> Vec<(String, Vec<u8>, i64)> {
+/// Data of each size, at the limits of signed and unsigned integers.
+fn integer_data() -> Vec<(String, Vec<u8>)> {
     let mut all = Vec::new();
-    let mut writes = other_writes();
-    writes.extend(single_writes().into_iter().step_by(3).map(|(format, value)| (format, vec![value])));
-    for (number, (format, values)) in writes.into_iter().enumerate() {
-        let list = encode(&values);
-        if !matches!(domain::writing(original, format.as_bytes(), &list, &values, CAP), Verdict::Inside) {
-            continue;
-        }
-        if let Outcome::Accepted(record) = original.pack(format.as_bytes(), &values) {
-            let cut = record.len().saturating_sub(1);
-            match number % 4 {
-                0 => all.push((format, record[..cut].to_vec(), 1)),
-                _ => all.push((format, record, 1)),
-            }
-        }
-    }
     for size in 1..=8_usize {
-        for (high, low) in [(0xFF, 0xFF), (0x80, 0), (0x7F, 0xFF), (0, 1)] {
+        for (high, low) in [(0xFF, 0xFF), (0x80, 0), (0x7F, 0xFF), (0, 1), (0x12, 0x34)] {
             let mut data = vec![low; size];
             data[0] = high;
-            all.extend(["i", "I"].map(|option| (format!(">{option}{size}"), data.clone(), 1)));
+            all.extend(["i", "I"].map(|option| (format!(">{option}{size}"), data.clone())));
             data.reverse();
-            all.extend(["l", "L"].map(|option| (format!("<{option}{size}"), data.clone(), 1)));
+            all.extend(["l", "L"].map(|option| (format!("<{option}{size}"), data.clone())));
         }
     }
-    for option in ["j", "J", "T", "d", "n", ">j", ">d", "b", "B", "h", "H"] {
-        all.push((option.to_string(), vec![0xFF; 8], 1));
-        all.push((option.to_string(), vec![0x80, 0, 0, 0, 0, 0, 0, 1], 1));
+    for option in ["j", "J", "T", "d", "n", ">j", ">d", "b", "B", "h", "H", "i", "I", "l", "L"] {
+        all.push((option.to_string(), vec![0xFF; 8]));
+        all.push((option.to_string(), vec![0x80, 0, 0, 0, 0, 0, 0, 1]));
     }
-    for bits in [0_u32, 0x8000_0000, 1, 0x0080_0000, 0x3F80_0001, 0x7F7F_FFFF, 0x7F80_0000, 0xFF80_0000, 0x5D80_0001] {
-        all.push(("<f".to_string(), bits.to_le_bytes().to_vec(), 1));
-        all.push((">f".to_string(), bits.to_be_bytes().to_vec(), 1));
+    all
+}
+
+fn float_data() -> Vec<(String, Vec<u8>)> {
+    let singles = [0_u32, 0x8000_0000, 1, 0x007F_FFFF, 0x0080_0000, 0x3F80_0001, 0x5D80_0001, 0x7F7F_FFFF, 0x7F80_0000];
+    let mut all = Vec::new();
+    for bits in singles.into_iter().chain([0xFF80_0000]) {
+        all.push(("<f".to_string(), bits.to_le_bytes().to_vec()));
+        all.push((">f".to_string(), bits.to_be_bytes().to_vec()));
     }
-    for start in -4..=5 {
-        all.extend(
-            ["", "b", "z", "i2", "!4i", "c1", "x", "!2h"].map(|format| (format.to_string(), vec![1, 2, 0], start)),
-        );
+    for float in floats().into_iter().chain(nans()) {
+        let Value::Float(bits) = float else { continue };
+        all.push(("<d".to_string(), bits.to_le_bytes().to_vec()));
+        all.push((">n".to_string(), bits.to_be_bytes().to_vec()));
     }
-    let texts: [(&str, &[u8]); 10] = [
+    all
+}
+
+fn text_data() -> Vec<(String, Vec<u8>)> {
+    let all: [(&str, &[u8]); 14] = [
         ("z", b"AB\0C"),
         ("z", b"AB"),
         ("z", b""),
         ("zz", b"\0A\0"),
         ("s1", b"\x02AB"),
         ("s1", b"\x03AB"),
+        ("s1", b""),
         (">s2", b"\0\x01A"),
         ("<s2", b"\x01\0A"),
+        ("s2", b"\x01"),
+        ("s", b"\x01\0\0\0\0\0\0\0A"),
         ("c3", b"AB"),
+        ("c3", b"AB\0"),
         ("c65536", b"AB"),
     ];
-    all.extend(texts.map(|(format, data)| (format.to_string(), data.to_vec(), 1)));
-    all.extend(EDGES.iter().map(|edge| (edge.to_string(), vec![1; 24], 1)));
-    all.extend(EDGES.iter().map(|edge| (edge.to_string(), vec![], 1)));
-    all
+    all.map(|(format, data)| (format.to_string(), data.to_vec())).to_vec()
 }
 
-fn read(original: &mut Original) -> File {
-    let mut file = File::default();
-    for (format, data, start) in readings(original) {
-        let format = format.as_bytes();
-        if !matches!(domain::reading(original, format, &data, start), Verdict::Inside) {
+/// Reads the records of some writes, each whole, cut by a byte, and behind 16 other bytes.
+fn read_back(recording: &mut Recording, writes: &[(String, Vec<Value>)]) {
+    for (format, values) in writes {
+        let (format, list) = (format.as_bytes(), encode(values));
+        let inside = domain::writing(&mut recording.original, format, &list, values, LONGEST as u64);
+        let (true, Outcome::Accepted(record)) =
+            (matches!(inside, Verdict::Inside), recording.original.pack(format, values))
+        else {
             continue;
-        }
-        let answer = match original.unpack(format, &data, start) {
-            Outcome::Accepted(answer) => Some(answer),
-            Outcome::Refused => None,
-            Outcome::Panicked => continue,
         };
-        let single = items(format).iter().any(|item| item.option == b'f');
-        let (accepted, (values, position)) = (answer.is_some(), answer.unwrap_or_default());
-        if single && values.iter().any(Value::is_nan) {
-            continue;
-        }
-        let case = [
-            run_of(format),
-            run_of(&data),
-            start.to_be_bytes().to_vec(),
-            vec![u8::from(!accepted)],
-            run_of(&encode(&values)),
-            position.to_be_bytes().to_vec(),
-        ];
-        file.add(format, accepted, case.concat());
+        recording.read(format, &record, 1);
+        recording.read(format, &record[..record.len().saturating_sub(1)], 1);
+        recording.read(format, &[&[0xEE; 16][..], &record].concat(), 17);
     }
-    file
+}
+
+fn read(recording: &mut Recording) {
+    let groups = [
+        ("reading: integers of each size", integer_data()),
+        ("reading: floats", float_data()),
+        ("reading: texts", text_data()),
+    ];
+    for (name, readings) in groups {
+        recording.group(name);
+        readings.iter().for_each(|(format, data)| recording.read(format.as_bytes(), data, 1));
+    }
+    recording.group("reading: each start");
+    for (start, format) in (-3..=4).flat_map(|start| ["", "b", "z", "i2", "!4i", "c1", "x", "!2h"].map(|f| (start, f)))
+    {
+        recording.read(format.as_bytes(), &[1, 2, 0], start);
+    }
+    recording.group("reading: what was written, whole, cut, and at an offset");
+    read_back(recording, &aligned_writes());
+    let texts = text_writes().into_iter().map(|(format, value)| (format, vec![value]));
+    read_back(recording, &texts.collect::<Vec<_>>());
+    recording.group("reading: numerals, and what is refused");
+    for format in each_numeral().iter().map(String::as_str).chain(EDGES.iter().copied()) {
+        recording.read(format.as_bytes(), &[1; 24], 1);
+        recording.read(format.as_bytes(), &[], 1);
+    }
+    recording.group("reading: random formats and data");
+    let (mut random, mut writer) = (Random::new(3), Original::default());
+    for _ in 0..800 {
+        for case in some_readings(&mut random, &mut writer) {
+            recording.read(&case.format, &case.data, case.start);
+        }
+    }
 }
