@@ -5,5 +5,6 @@ pub mod Numerals
 pub mod Alignments
 pub mod Taken
 pub mod Operands
+pub mod Shown
 pub mod Cursors
 pub mod Walking

@@ -5,9 +5,10 @@ use mathlib.Core.Bool.{Bool, true, false, cond}
 use mathlib.Core.List.{List}
 use native.Mathlib.Nat.{le-refl}
 use native.Mathlib.Omega.{arith}
-use lib.Dec.{eqb}
+use lib.Dec.{ltb, eqb}
 use lib.ListN.{length, take, drop, length-drop}
 use lib.Seq.{take-all}
+use borrow.Author.Tests.{ltb-true, ltb-false}
 use Rattle.definition.specs.Answers.{Checked, refused, accepted}
 use Rattle.definition.specs.Options.{entry}
 use Rattle.definition.specs.Items.{takenBy}
@@ -20,7 +21,7 @@ use Rattle.format.specs.Operands.{operandBy, operandWith, taking, operan
 use Rattle.format.specs.declared.operand.Operand.{Operand}
 use Rattle.format.specs.declared.operand.Operand.the-variants as Operand
 use Rattle.format.proofs.Taken.{taken-length}
-use Rattle.format.proofs.Entries.{at-fixed, at-plain, at-align, at-none, plain-by, size-missing}
+use Rattle.format.proofs.Entries.{at-fixed, at-plain, at-align, at-none, plain-by}
 
 -- ---- how many bytes are taken
 taking-count : (c : Checked ℕ) (i n j : ℕ) → taking i c ≡ accepted (n, j) → j ≡ i
@@ -36,11 +37,11 @@ room (Operand.Refused k) e s q h = tt
 room (Operand.Of n i) e s q h = omega (arith, operand-count e s n i (sym q))
 
 -- ---- X, and a byte that is no option
-pub operand-x : (e : ℕ) → 208 ≤ e → e < 224 → (s : List ℕ) → naturalAt s ≡ operandAt (entryAt e) s
+pub operand-x : (e : ℕ) → 248 ≤ e → e < 252 → (s : List ℕ) → naturalAt s ≡ operandAt (entryAt e) s
 unfolding operandAt naturalAt
 operand-x e l h s = rw (at-align e l h)
 
-pub operand-none : (e : ℕ) → 224 ≤ e → (s : List ℕ) → refused 1 ≡ operandAt (entryAt e) s
+pub operand-none : (e : ℕ) → 252 ≤ e → (s : List ℕ) → refused 1 ≡ operandAt (entryAt e) s
 unfolding operandAt
 operand-none e l s = rw (at-none e l)
 
@@ -50,11 +51,12 @@ unfolding operandAt
 fixed-with e s true q r = rw (r, q)
 fixed-with e s false q r = rw (r, q)
 
-pub operand-fixed : (e : ℕ) → e < 112 → (s : List ℕ) → accepted (sizeAt e, 0) ≡ operandAt (entryAt e) s
-operand-fixed e h s = rw (at-fixed e h) (fixed-with (entry (Number (kindAt e)) (sizeAt e) (cond (eqb e 83) DigitsBehindX Nothing)) s (eqb e 83) (size-missing e) refl)
-
-pub operand-plain : (e : ℕ) → 112 ≤ e → e < 128 → (s : List ℕ) → accepted (0, 0) ≡ operandAt (entryAt e) s
-operand-plain e l h s = rw (at-plain e l h) (fixed-with (entry (plainAt e) 0 Nothing) s false (plain-by e 0) refl)
+pub operand-bare : (e : ℕ) → e < 192 → (s : List ℕ) → accepted (sizeAt e, 0) ≡ operandAt (entryAt e) s
+operand-bare e h s = go (ltb e 112) refl
+  where
+    go : (t : Bool) → ltb e 112 ≡ t → accepted (sizeAt e, 0) ≡ operandAt (entryAt e) s
+    go true q = rw (at-fixed e (ltb-true e 112 q)) (fixed-with (entry (Number (kindAt e)) (sizeAt e) (cond (eqb e 84) DigitsBehindX Nothing)) s (eqb e 84) refl refl)
+    go false q = rw (at-plain e (ltb-false e 112 q) h) (fixed-with (entry (plainAt e) (sizeAt e) Nothing) s false (plain-by e (sizeAt e)) refl)
 
 -- ---- the part of s from a place to its end
 pub part-rest : (a : ℕ) (s : List ℕ) → take (length s - a) (drop a s) ≡ drop a s

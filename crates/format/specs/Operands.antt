@@ -1,9 +1,11 @@
 -- The operand of an option: its size, limit, length or alignment. What an item does is its option's class with its operand.
 use Prim.Native.Nat.{ℕ, _+_, _^_, _≤_, _<_}
+use mathlib.Core.Bool.{cond}
 use mathlib.Core.List.{List}
+use lib.Dec.{ltb, leb}
 use lib.ListN.{length, drop}
 use Rattle.definition.specs.Answers.{Checked, refused, accepted, _>>=_}
-use Rattle.definition.specs.Items.{takenBy, nextByte, numeralOf}
+use Rattle.definition.specs.Items.{digits, takenBy, nextByte, numeralOf}
 use Rattle.definition.specs.Ops.{sizeOr, limitOr, needed, naturalOf}
 use Rattle.definition.specs.declared.Class.{Class}
 use Rattle.definition.specs.declared.Class.the-variants as Class
@@ -11,16 +13,25 @@ use Rattle.definition.specs.declared.NumeralRule.{NumeralRule}
 use Rattle.definition.specs.declared.NumeralRule.the-variants.{Nothing, Digits, DigitsBehindX, NextByte}
 use Rattle.definition.specs.declared.Entry.{Entry}
 use Rattle.definition.specs.declared.Numeral.{Numeral}
-use Rattle.definition.specs.declared.Numeral.the-variants.{Missing}
+use Rattle.definition.specs.declared.Numeral.the-variants.{Missing, TooLarge, Value}
 use Rattle.definition.specs.declared.Op.{Op}
 use Rattle.definition.specs.declared.Op.the-variants as Op
 use Rattle.definition.specs.declared.Field.the-variants as Field
 use Rattle.definition.specs.declared.Setting.the-variants as Setting
+use Rattle.numeral.specs.Numerals.{shortOf}
+use Rattle.numeral.specs.declared.Short.{Short}
+use Rattle.numeral.specs.declared.Short.the-variants as Short
 use Rattle.format.specs.Packed.{entryAt}
 use Rattle.format.specs.declared.operand.Operand.{Operand}
 use Rattle.format.specs.declared.operand.Operand.the-variants as Operand
 use Rattle.format.specs.declared.operand.Behind.{Behind}
 use Rattle.format.specs.declared.operand.Behind.the-variants as Behind
+
+-- the size by the numeral; n, which needs no check, without one
+abbrev pub sizeBy : ℕ → Numeral → Checked ℕ
+sizeBy n Missing = accepted n
+sizeBy n TooLarge = refused 2
+sizeBy n (Value k) = sizeOr n (Value k)
 
 -- the operand by class, size and numeral, of any option but X
 abbrev pub operandBy : Class → ℕ → Numeral → Checked ℕ
@@ -28,10 +39,10 @@ operandBy Class.NoOption n m = refused 1
 operandBy Class.Blank n m = accepted n
 operandBy (Class.Order o) n m = accepted n
 operandBy Class.Limit n m = limitOr n m
-operandBy (Class.Number k) n m = sizeOr n m
+operandBy (Class.Number k) n m = sizeBy n m
 operandBy Class.Chars n m = needed m
 operandBy Class.ZeroEnded n m = accepted n
-operandBy Class.Counted n m = sizeOr n m
+operandBy Class.Counted n m = sizeBy n m
 operandBy Class.Fill n m = accepted n
 operandBy Class.Align n m = refused 7
 
@@ -67,6 +78,10 @@ operandAt e s = taking (length (takenBy (e .rule) s)) (operandWith (e .rule) e (
 unfoldable pub naturalAt : List ℕ → Checked (ℕ × ℕ)
 naturalAt s = taking (length (nextByte s)) (naturalOf (nextByte s))
 
+-- what the numeral of an option shows at once, what follows its byte being s
+abbrev pub shownAt : ℕ → List ℕ → Short
+shownAt e s = cond (ltb e 192) Short.Missing (cond (leb 248 e) Short.Long (shortOf (digits s)))
+
 -- one byte more is taken
 abbrev pub oneMore : Checked (ℕ × ℕ) → Checked (ℕ × ℕ)
 oneMore c = c >>= λ r. accepted (r .0, r .1 + 1)
@@ -91,4 +106,4 @@ behindOf (Behind.Numeral e) s = oneMore (operandAt (entryAt e) (drop 1 s))
 abbrev pub numeralBehind : Behind → List ℕ → Type 0
 numeralBehind (Behind.Refused k) s = Unit {0}
 numeralBehind (Behind.By n i) s = Unit {0}
-numeralBehind (Behind.Numeral e) s = (128 ≤ e) × (0 < length s)
+numeralBehind (Behind.Numeral e) s = (192 ≤ e) × (0 < length s)

@@ -1,5 +1,5 @@
 -- The option table packed into numbers, and the entry that a number stands for.
-use Prim.Native.Nat.{ℕ, _+_, _/_, _%_}
+use Prim.Native.Nat.{ℕ, _/_, _%_}
 use mathlib.Core.Bool.{true, false, cond}
 use mathlib.Core.List.{List, [], _∷_}
 use lib.Dec.{ltb, eqb}
@@ -14,14 +14,14 @@ use Rattle.definition.specs.declared.Entry.{Entry}
 -- the table, as the code has it
 unfoldable pub packed : List ℕ
 packed =
-    240 ∷ 240 ∷ 240 ∷ 240 ∷ 240 ∷ 240 ∷ 240 ∷ 240 ∷ 240 ∷ 112 ∷ 112 ∷ 240 ∷ 240 ∷ 112 ∷ 240 ∷ 240 ∷ 240 ∷ 240 ∷ 240 ∷ 240 ∷ 240 ∷ 240 ∷ 240 ∷ 240 ∷ 240 ∷ 240 ∷ 240 ∷ 240 ∷ 240 ∷ 240 ∷ 240 ∷ 240
-    ∷ 112 ∷ 199 ∷ 240 ∷ 240 ∷ 240 ∷ 240 ∷ 240 ∷ 240 ∷ 240 ∷ 240 ∷ 240 ∷ 240 ∷ 240 ∷ 240 ∷ 240 ∷ 240 ∷ 240 ∷ 240 ∷ 240 ∷ 240 ∷ 240 ∷ 240 ∷ 240 ∷ 240 ∷ 240 ∷ 240 ∷ 240 ∷ 240 ∷ 113 ∷ 113 ∷ 114 ∷ 240
-    ∷ 240 ∷ 240 ∷ 16 ∷ 240 ∷ 240 ∷ 240 ∷ 240 ∷ 240 ∷ 17 ∷ 147 ∷ 55 ∷ 240 ∷ 147 ∷ 240 ∷ 240 ∷ 240 ∷ 240 ∷ 240 ∷ 240 ∷ 240 ∷ 71 ∷ 240 ∷ 240 ∷ 240 ∷ 208 ∷ 240 ∷ 240 ∷ 240 ∷ 240 ∷ 240 ∷ 240 ∷ 240
-    ∷ 240 ∷ 240 ∷ 0 ∷ 176 ∷ 103 ∷ 240 ∷ 83 ∷ 240 ∷ 1 ∷ 131 ∷ 39 ∷ 240 ∷ 131 ∷ 240 ∷ 103 ∷ 240 ∷ 240 ∷ 240 ∷ 240 ∷ 167 ∷ 240 ∷ 240 ∷ 240 ∷ 240 ∷ 115 ∷ 240 ∷ 116 ∷ 240 ∷ 240 ∷ 240 ∷ 240 ∷ 240
-    ∷ 240 ∷ 240 ∷ 240 ∷ 240 ∷ 240 ∷ 240 ∷ 240 ∷ 240 ∷ 240 ∷ 240 ∷ 240 ∷ 240 ∷ 240 ∷ 240 ∷ 240 ∷ 240 ∷ 240 ∷ 240 ∷ 240 ∷ 240 ∷ 240 ∷ 240 ∷ 240 ∷ 240 ∷ 240 ∷ 240 ∷ 240 ∷ 240 ∷ 240 ∷ 240 ∷ 240 ∷ 240
-    ∷ 240 ∷ 240 ∷ 240 ∷ 240 ∷ 240 ∷ 240 ∷ 240 ∷ 240 ∷ 240 ∷ 240 ∷ 240 ∷ 240 ∷ 240 ∷ 240 ∷ 240 ∷ 240 ∷ 240 ∷ 240 ∷ 240 ∷ 240 ∷ 240 ∷ 240 ∷ 240 ∷ 240 ∷ 240 ∷ 240 ∷ 240 ∷ 240 ∷ 240 ∷ 240 ∷ 240 ∷ 240
-    ∷ 240 ∷ 240 ∷ 240 ∷ 240 ∷ 240 ∷ 240 ∷ 240 ∷ 240 ∷ 240 ∷ 240 ∷ 240 ∷ 240 ∷ 240 ∷ 240 ∷ 240 ∷ 240 ∷ 240 ∷ 240 ∷ 240 ∷ 240 ∷ 240 ∷ 240 ∷ 240 ∷ 240 ∷ 240 ∷ 240 ∷ 240 ∷ 240 ∷ 240 ∷ 240 ∷ 240 ∷ 240
-    ∷ 240 ∷ 240 ∷ 240 ∷ 240 ∷ 240 ∷ 240 ∷ 240 ∷ 240 ∷ 240 ∷ 240 ∷ 240 ∷ 240 ∷ 240 ∷ 240 ∷ 240 ∷ 240 ∷ 240 ∷ 240 ∷ 240 ∷ 240 ∷ 240 ∷ 240 ∷ 240 ∷ 240 ∷ 240 ∷ 240 ∷ 240 ∷ 240 ∷ 240 ∷ 240 ∷ 240 ∷ 240
+    252 ∷ 252 ∷ 252 ∷ 252 ∷ 252 ∷ 252 ∷ 252 ∷ 252 ∷ 252 ∷ 112 ∷ 112 ∷ 252 ∷ 252 ∷ 112 ∷ 252 ∷ 252 ∷ 252 ∷ 252 ∷ 252 ∷ 252 ∷ 252 ∷ 252 ∷ 252 ∷ 252 ∷ 252 ∷ 252 ∷ 252 ∷ 252 ∷ 252 ∷ 252 ∷ 252 ∷ 252
+    ∷ 112 ∷ 244 ∷ 252 ∷ 252 ∷ 252 ∷ 252 ∷ 252 ∷ 252 ∷ 252 ∷ 252 ∷ 252 ∷ 252 ∷ 252 ∷ 252 ∷ 252 ∷ 252 ∷ 252 ∷ 252 ∷ 252 ∷ 252 ∷ 252 ∷ 252 ∷ 252 ∷ 252 ∷ 252 ∷ 252 ∷ 252 ∷ 252 ∷ 128 ∷ 128 ∷ 144 ∷ 252
+    ∷ 252 ∷ 252 ∷ 17 ∷ 252 ∷ 252 ∷ 252 ∷ 252 ∷ 252 ∷ 18 ∷ 212 ∷ 56 ∷ 252 ∷ 212 ∷ 252 ∷ 252 ∷ 252 ∷ 252 ∷ 252 ∷ 252 ∷ 252 ∷ 72 ∷ 252 ∷ 252 ∷ 252 ∷ 248 ∷ 252 ∷ 252 ∷ 252 ∷ 252 ∷ 252 ∷ 252 ∷ 252
+    ∷ 252 ∷ 252 ∷ 1 ∷ 240 ∷ 104 ∷ 252 ∷ 84 ∷ 252 ∷ 2 ∷ 196 ∷ 40 ∷ 252 ∷ 196 ∷ 252 ∷ 104 ∷ 252 ∷ 252 ∷ 252 ∷ 252 ∷ 232 ∷ 252 ∷ 252 ∷ 252 ∷ 252 ∷ 160 ∷ 252 ∷ 176 ∷ 252 ∷ 252 ∷ 252 ∷ 252 ∷ 252
+    ∷ 252 ∷ 252 ∷ 252 ∷ 252 ∷ 252 ∷ 252 ∷ 252 ∷ 252 ∷ 252 ∷ 252 ∷ 252 ∷ 252 ∷ 252 ∷ 252 ∷ 252 ∷ 252 ∷ 252 ∷ 252 ∷ 252 ∷ 252 ∷ 252 ∷ 252 ∷ 252 ∷ 252 ∷ 252 ∷ 252 ∷ 252 ∷ 252 ∷ 252 ∷ 252 ∷ 252 ∷ 252
+    ∷ 252 ∷ 252 ∷ 252 ∷ 252 ∷ 252 ∷ 252 ∷ 252 ∷ 252 ∷ 252 ∷ 252 ∷ 252 ∷ 252 ∷ 252 ∷ 252 ∷ 252 ∷ 252 ∷ 252 ∷ 252 ∷ 252 ∷ 252 ∷ 252 ∷ 252 ∷ 252 ∷ 252 ∷ 252 ∷ 252 ∷ 252 ∷ 252 ∷ 252 ∷ 252 ∷ 252 ∷ 252
+    ∷ 252 ∷ 252 ∷ 252 ∷ 252 ∷ 252 ∷ 252 ∷ 252 ∷ 252 ∷ 252 ∷ 252 ∷ 252 ∷ 252 ∷ 252 ∷ 252 ∷ 252 ∷ 252 ∷ 252 ∷ 252 ∷ 252 ∷ 252 ∷ 252 ∷ 252 ∷ 252 ∷ 252 ∷ 252 ∷ 252 ∷ 252 ∷ 252 ∷ 252 ∷ 252 ∷ 252 ∷ 252
+    ∷ 252 ∷ 252 ∷ 252 ∷ 252 ∷ 252 ∷ 252 ∷ 252 ∷ 252 ∷ 252 ∷ 252 ∷ 252 ∷ 252 ∷ 252 ∷ 252 ∷ 252 ∷ 252 ∷ 252 ∷ 252 ∷ 252 ∷ 252 ∷ 252 ∷ 252 ∷ 252 ∷ 252 ∷ 252 ∷ 252 ∷ 252 ∷ 252 ∷ 252 ∷ 252 ∷ 252 ∷ 252
     ∷ []
 
 -- the kind by the sixteens of a number below 112
@@ -33,21 +33,21 @@ kindAt e = kindBy (e / 16)
 
 -- the size by the units
 abbrev pub sizeAt : ℕ → ℕ
-sizeAt e = e % 16 + 1
+sizeAt e = e % 16
 
--- the class of a number of 112 to 127
+-- the class of a number of 112 to 191
 unfoldable pub plainAt : ℕ → Class
-plainAt e = cond (eqb e 112) Blank (cond (eqb e 113) (Order false) (cond (eqb e 114) (Order true) (cond (eqb e 115) Fill ZeroEnded)))
+plainAt e = cond (eqb e 112) Blank (cond (eqb e 128) (Order false) (cond (eqb e 144) (Order true) (cond (eqb e 160) Fill ZeroEnded)))
 
 -- the entry that a number stands for
 unfoldable pub entryAt : ℕ → Entry
 entryAt e =
-    cond (ltb e 112) (entry (Number (kindAt e)) (sizeAt e) (cond (eqb e 83) DigitsBehindX Nothing))
-    (cond (ltb e 128) (entry (plainAt e) 0 Nothing)
-    (cond (ltb e 144) (entry (Number Signed) (sizeAt e) Digits)
-    (cond (ltb e 160) (entry (Number Unsigned) (sizeAt e) Digits)
-    (cond (ltb e 176) (entry Counted (sizeAt e) Digits)
-    (cond (ltb e 192) (entry Chars 0 Digits)
-    (cond (ltb e 208) (entry Limit 8 Digits)
-    (cond (ltb e 224) (entry Align 0 NextByte)
+    cond (ltb e 112) (entry (Number (kindAt e)) (sizeAt e) (cond (eqb e 84) DigitsBehindX Nothing))
+    (cond (ltb e 192) (entry (plainAt e) (sizeAt e) Nothing)
+    (cond (ltb e 208) (entry (Number Signed) (sizeAt e) Digits)
+    (cond (ltb e 224) (entry (Number Unsigned) (sizeAt e) Digits)
+    (cond (ltb e 240) (entry Counted (sizeAt e) Digits)
+    (cond (ltb e 244) (entry Chars 0 Digits)
+    (cond (ltb e 248) (entry Limit 8 Digits)
+    (cond (ltb e 252) (entry Align 0 NextByte)
     (entry NoOption 0 Nothing))))))))

@@ -44,9 +44,9 @@ fn plain(e: u8) -> Op
 {
     match e {
         112 => Op::Blank,
-        113 => Op::Set(Setting::Order(false)),
-        114 => Op::Set(Setting::Order(true)),
-        115 => Op::Pad(1, 1),
+        128 => Op::Set(Setting::Order(false)),
+        144 => Op::Set(Setting::Order(true)),
+        160 => Op::Pad(1, 1),
         _ => Op::Put(Field::ZeroEnded),
     }
 }

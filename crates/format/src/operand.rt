@@ -21,7 +21,7 @@ ghost use lib.ListN.{length, drop};
 ghost use Rattle.definition.specs.Ops.{sizeOr, limitOr};
 ghost use Rattle.definition.specs.declared.Numeral.the-variants.{Missing, Value};
 ghost use Rattle.format.specs.Packed.{packed, entryAt};
-ghost use Rattle.format.specs.Operands.{operandBy, taking, operandAt, naturalAt, oneMore, operandOf, roomFor1, behindOf, numeralBehind};
+ghost use Rattle.format.specs.Operands.{operandBy, taking, operandAt, naturalAt, oneMore, shownAt, operandOf, roomFor1, behindOf, numeralBehind};
 
 // A refusal, or the operand and how many bytes the option takes.
 pub enum Operand {
@@ -67,8 +67,8 @@ fn limit(n: u64, i: usize) -> Operand
 
 // The operand of an option with the numeral n, of i digits.
 fn with_numeral(e: u8, n: u64, i: usize) -> Operand
-    requires low { ⌜ 128 ≤ e ⌝ }
-    requires high { ⌜ e < 208 ⌝ }
+    requires low { ⌜ 192 ≤ e ⌝ }
+    requires high { ⌜ e < 248 ⌝ }
     ensures { λ r. ⌜ operandOf r ≡ taking i (operandBy (entryAt e .class) (entryAt e .size) (Value n)) ⌝ }
 {
     if e < COUNTED_END {
@@ -82,8 +82,8 @@ fn with_numeral(e: u8, n: u64, i: usize) -> Operand
 
 // The operand of an option that may have a numeral and has none.
 fn without_numeral(e: u8) -> Operand
-    requires low { ⌜ 128 ≤ e ⌝ }
-    requires high { ⌜ e < 208 ⌝ }
+    requires low { ⌜ 192 ≤ e ⌝ }
+    requires high { ⌜ e < 248 ⌝ }
     ensures { λ r. ⌜ operandOf r ≡ taking 0 (operandBy (entryAt e .class) (entryAt e .size) Missing) ⌝ }
 {
     if e < COUNTED_END {
@@ -97,8 +97,8 @@ fn without_numeral(e: u8) -> Operand
 
 // The operand of an option that may have a numeral.
 fn by_numeral(rest: &[u8], e: u8) -> Operand
-    requires low { ⌜ 128 ≤ e ⌝ }
-    requires high { ⌜ e < 208 ⌝ }
+    requires low { ⌜ 192 ≤ e ⌝ }
+    requires high { ⌜ e < 248 ⌝ }
     ensures { λ r. ⌜ operandOf r ≡ operandAt (entryAt e) (now (rest .entry)) ⌝ }
 {
     match read(rest) {
@@ -154,7 +154,7 @@ fn one_more(x: Operand) -> Operand
 // has the operand that it has by itself.
 fn operand_of(table: &[u8; 256], rest: &[u8], e: u8) -> Operand
     requires table { ⌜ now table ≡ packed ⌝ }
-    requires low { ⌜ 128 ≤ e ⌝ }
+    requires low { ⌜ 192 ≤ e ⌝ }
     ensures { λ r. ⌜ operandOf r ≡ operandAt (entryAt e) (now (rest .entry)) ⌝ }
 {
     if e < LIMIT_END {
@@ -170,28 +170,40 @@ fn operand_of(table: &[u8; 256], rest: &[u8], e: u8) -> Operand
     }
 }
 
-// The operand of an option whose byte stands before a place. What needs no numeral, or one digit of 1 to 9, is seen at once.
+// What the numeral of an option shows at once. An option that takes nothing has none; X, and what is no option, count as long.
+fn shown(format: &[u8], at: usize, e: u8) -> Short
+    ensures { λ r. ⌜ r ≡ shownAt e (drop at (now (format .entry))) ⌝ }
+{
+    if e < PLAIN_END {
+        return Short::Missing;
+    }
+    if LIMIT_END <= e {
+        return Short::Long;
+    }
+    peek(format, at)
+}
+
+// The operand of an option whose byte stands before a place. What needs no numeral, or has one digit of 1 to 9 that it accepts, is seen at once.
 pub fn operand_at(table: &[u8; 256], format: &[u8], at: usize, e: u8) -> Operand
     requires table { ⌜ now table ≡ packed ⌝ }
     requires inside { ⌜ at ≤ length (now format) ⌝ }
     ensures { λ r. ⌜ operandOf r ≡ operandAt (entryAt e) (drop at (now (format .entry))) ⌝ }
 {
-    if e < FIXED_END {
-        return Operand::Of(size_of(e), 0);
-    }
-    if e < PLAIN_END {
-        return Operand::Of(0, 0);
-    }
-    if e < CHARS_END {
-        match peek(format, at) {
-            Short::Missing => {
-                if e < COUNTED_END {
-                    return Operand::Of(size_of(e), 0);
-                }
+    match shown(format, at, e) {
+        Short::Missing => {
+            if e < COUNTED_END {
+                return Operand::Of(size_of(e), 0);
             }
-            Short::Digit(d) => return Operand::Of(d, 1),
-            Short::Long => {}
         }
+        Short::Digit(d) => {
+            if e < CHARS_END {
+                return Operand::Of(d, 1);
+            }
+            if is_power(d) {
+                return Operand::Of(d, 1);
+            }
+        }
+        Short::Long => {}
     }
     operand_of(table, &format[at..], e)
 }

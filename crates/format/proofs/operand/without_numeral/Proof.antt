@@ -1,6 +1,6 @@
 -- The range of the entry tells the operand that the option has by itself.
 use borrow.Author.Needs.{needs}
-use Rattle.format.proofs.Entries.{sized-by, size-missing, chars-by, limit-by}
+use Rattle.format.proofs.Entries.{sized-by, chars-by, limit-by}
 use Rattle.format.proofs.operand.without_numeral.Statement.{statement}
 use Rattle.format.proofs.operand.without_numeral.Tie as tie
 
@@ -8,7 +8,7 @@ size-of-requires : tie.Need-size-of-requires
 size-of-requires c κs = search needs
 
 returns : tie.Need-returns
-returns c = rw (sized-by _ (c .before .before .pre .0) (c .before .if1 .taken) _, size-missing, c .size-of .ensures)
+returns c = rw (sized-by _ (c .before .before .pre .0) (c .before .if1 .taken) _, c .size-of .ensures)
 
 returns-2 : tie.Need-returns-2
 returns-2 c = rw (chars-by _ (c .before .if1 .left) (c .if2 .taken) _)

@@ -1,14 +1,15 @@
 -- The byte has its entry, and what follows it its operand.
-use Prim.Native.Nat.{_+_}
-use mathlib.Core.Path.{sym, ap, _∙_}
+use Prim.Native.Nat.{ℕ, _+_}
+use mathlib.Core.Path.{_≡_, sym, ap, _∙_}
 use native.Mathlib.Omega.{arith}
 use borrow.Author.Needs.{needs}
 use denote.Ref.{now}
 use lib.ListN.{drop, length-drop}
-use Rattle.definition.specs.Answers.{refused, accepted}
+use Rattle.definition.specs.Answers.{Checked, refused, accepted}
 use Rattle.format.specs.Operands.{operandOf}
 use Rattle.format.specs.Packed.{entryAt}
-use Rattle.format.proofs.Cursors.{next-end, next-step}
+use Rattle.format.specs.Steps.{nextAt}
+use Rattle.format.proofs.Cursors.{stepOf, next-end, next-step}
 use Rattle.format.proofs.Operands.{operand-count}
 use Rattle.format.proofs.cursor.Cursor.next.Statement.{statement}
 use Rattle.format.proofs.cursor.Cursor.next.Tie as tie
@@ -39,15 +40,17 @@ add-t17 c =
     let s = now (c .before .before .before .before .before .before .before .before .args .format) in
     omega (arith, operand-count (entryAt (c .before .before .before .before .entry .result)) (drop (c .before .before .before .before .before .before .before .before .args .self .at + 1) s) _ _ (sym (c .before .before .before .operand-at .ensures) ∙ ap operandOf (c .before .n .given .1)), length-drop (c .before .before .before .before .before .before .before .before .args .self .at + 1) s)
 
+-- what the operand says is the item
+step : (c : tie.After-operand-at) (x : Checked (ℕ × ℕ)) → x ≡ operandOf (c .operand-at .result) → stepOf (c .before .before .before .before .before .args .self .at) (c .before .entry .result) x ≡ nextAt (c .before .before .before .before .before .args .self .at) (drop (c .before .before .before .before .before .args .self .at) (now (c .before .before .before .before .before .args .format)))
+step c x q =
+    let a = c .before .before .before .before .before .args in
+    next-step (now (a .format)) (a .self .at) (c .before .before .before .if1 .left) (omega (arith, c .before .before .shared-slice-known2 .given (a .self .at))) (c .before .entry .result) (c .before .entry .ensures) x (q ∙ c .operand-at .ensures)
+
 returns-2 : tie.Need-returns-2
-returns-2 c =
-    let x = c .before .k .given in
-    next-step (now (c .before .before .before .before .before .before .before .before .args .format)) (c .before .before .before .before .before .before .before .before .args .self .at) (c .before .before .before .before .before .before .if1 .left) (c .before .before .before .before .entry .result) (c .before .before .before .before .entry .ensures) (refused (x .0 .0)) (sym (ap operandOf (x .1)) ∙ c .before .before .before .operand-at .ensures)
+returns-2 c = let x = c .before .k .given in step (c .before .before .before) (refused (x .0 .0)) (sym (ap operandOf (x .1)))
 
 returns-3 : tie.Need-returns-3
-returns-3 c =
-    let x = c .before .n .given in
-    next-step (now (c .before .before .before .before .before .before .before .before .args .format)) (c .before .before .before .before .before .before .before .before .args .self .at) (c .before .before .before .before .before .before .if1 .left) (c .before .before .before .before .entry .result) (c .before .before .before .before .entry .ensures) (accepted (x .0 .0, x .0 .1 .0)) (sym (ap operandOf (x .1)) ∙ c .before .before .before .operand-at .ensures)
+returns-3 c = let x = c .before .n .given in step (c .before .before .before) (accepted (x .0 .0, x .0 .1 .0)) (sym (ap operandOf (x .1)))
 
 pub next-spec : {M : Type 1} → statement M
 next-spec =
