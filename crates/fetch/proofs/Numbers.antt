@@ -27,7 +27,7 @@ use Rattle.definition.proofs.Numbers.{validSize}
 use Rattle.coder.specs.Digits.{lowBytes}
 use Rattle.coder.specs.Numbers.{unsignedAt, signedAt}
 use Rattle.definition.proofs.Bytes.{number-is}
-use Rattle.fetch.specs.Readings.{valuesOf, Inside, Decodes}
+use Rattle.fetch.specs.Readings.{valueOf, Inside, Decodes}
 use Rattle.fetch.specs.declared.decode.Reading.{Reading}
 use Rattle.fetch.specs.declared.decode.Reading.the-variants.{Integer, Float}
 use Rattle.fetch.specs.declared.decode.Decoded.{Decoded}
@@ -61,7 +61,7 @@ module _ (o : Bool) (n at : ℕ) (d : List ℕ) where
   number-refused : (k : Kind) (j : ℕ) → refused j ≡ numberAt o k n (drop at d) → Decodes d at (decode o (Field.Number k n) (drop at d)) (Decoded.Refused j)
   number-refused k j e = record { says = rw (decode-number o k n (drop at d), ← e); inside = tt }
 
-  number-read : (k : Kind) (v : Value) (r : Reading) → at + n ≤ length d → accepted v ≡ numberAt o k n (drop at d) → valuesOf d r ≡ v ∷ [] → Inside d r → Decodes d at (decode o (Field.Number k n) (drop at d)) (Decoded.Read r n)
+  number-read : (k : Kind) (v : Value) (r : Reading) → at + n ≤ length d → accepted v ≡ numberAt o k n (drop at d) → valueOf d r ≡ v → Inside d r → Decodes d at (decode o (Field.Number k n) (drop at d)) (Decoded.Read r n)
   number-read k v r h e f i = record { says = rw (decode-number o k n (drop at d), ← e, f); inside = (i, h) }
 
   pub signed-wide : refused 18 ≡ signedAt o n (drop at d) → Decodes d at (decode o (Field.Number Signed n) (drop at d)) (Decoded.Refused 18)

@@ -11,7 +11,7 @@ use borrow.Author.Tests.{le-leb, lt-leb}
 use Rattle.definition.specs.Answers.{Checked, refused, accepted, _>>=_}
 use Rattle.definition.specs.Values.{Value}
 use Rattle.definition.specs.Ops.{isPower}
-use Rattle.definition.specs.States.{state, set, further, natural, alignment, padding}
+use Rattle.definition.specs.States.{set, further, natural, alignment, padding}
 use Rattle.definition.specs.Fields.{decode}
 use Rattle.definition.specs.Writing.{Place, place}
 use Rattle.definition.specs.Reading.{skipped, readField, readOp}
@@ -25,9 +25,9 @@ use Rattle.definition.specs.declared.Op.{Op}
 use Rattle.definition.specs.declared.Op.the-variants as Op
 use Rattle.definition.proofs.Fields.{validField}
 use Rattle.definition.proofs.Ops.{validSetting, validOp}
+use Rattle.definition.proofs.Steps.{placed}
 use Rattle.definition.proofs.Numbers.{validSize}
-use Rattle.fetch.specs.Readings.{valuesOf, decodedIs, DecodedInside, listed, Decodes, Stands, placeIn, Skips, afterOf, Countable, fetchedIs, FetchedStands, Fetches}
-use Rattle.fetch.specs.declared.decode.Reading.the-variants.{Nothing}
+use Rattle.fetch.specs.Readings.{valueOf, decodedIs, DecodedInside, Decodes, Stands, placeIn, Skips, afterOf, Countable, fetchedIs, FetchedStands, Fetches}
 use Rattle.fetch.specs.declared.decode.Decoded.{Decoded}
 use Rattle.fetch.specs.declared.decode.Decoded.the-variants as Decoded
 use Rattle.fetch.specs.declared.Skipped.{Skipped}
@@ -46,19 +46,19 @@ skipped-is d s n = rw (drop-drop n (s .length) d)
 -- ---- padding
 module _ (d : List ℕ) (s : State) (n k : ℕ) where
   pub pad-refused : (j : ℕ) → refused j ≡ padding s n → Skips d s n k (Skipped.Refused j)
-  pad-refused j e = record { says = rw (← e); stands = tt }
+  pad-refused j e = record { says = rw (← e); inside = tt }
 
   module _ (p : ℕ) (e : accepted p ≡ padding s n) where
     pub pad-short : length d - s .length < p + k → Skips d s n k (Skipped.Refused 17)
-    pad-short h = record { says = rw (← e, lt-leb (p + k) (length (drop (s .length) d)) (omega (arith, length-drop (s .length) d))); stands = tt }
+    pad-short h = record { says = rw (← e, lt-leb (p + k) (length (drop (s .length) d)) (omega (arith, length-drop (s .length) d))); inside = tt }
 
-    pub pad-read : Stands d s → s .length + p + k ≤ length d → Skips d s n k (Skipped.To (state (s .big) (s .limit) (s .length + p + k)))
-    pad-read i h =
+    pub pad-read : s .length + p + k ≤ length d → Skips d s n k (Skipped.To (s .length + p + k))
+    pad-read h =
         let l : p + k ≤ length (drop (s .length) d) = omega (arith, length-drop (s .length) d) in
         let q : s .length + p + k ≡ s .length + (p + k) = omega arith in
         record {
           says = rw (← e, le-leb (p + k) (length (drop (s .length) d)) l, q, ← skipped-is d s (p + k));
-          stands = record { inside = h; limit = i .limit };
+          inside = h;
         }
 
 -- by what a call answered
@@ -70,62 +70,58 @@ no-padding : (s : State) → 1 ≤ s .limit → accepted 0 ≡ padding s 1
 unfolding alignment padding
 no-padding s h = let m : min 1 (s .limit) ≡ 1 = omega arith in rw (m, mod-one (1 - s .length % 1))
 
-pub unaligned : (d : List ℕ) (s : State) → Stands d s → Skips d s 1 0 (Skipped.To s)
+pub unaligned : (d : List ℕ) (s : State) → Stands d s → Skips d s 1 0 (Skipped.To (s .length))
 unaligned d s i =
     let z : s .length + 0 + 0 ≡ s .length = omega arith in
-    subst (λ (m : ℕ). Skips d s 1 0 (Skipped.To (state (s .big) (s .limit) m))) z (pad-read d s 1 0 0 (no-padding s (i .limit)) i (omega (arith, i .inside)))
+    subst (λ (m : ℕ). Skips d s 1 0 (Skipped.To m)) z (pad-read d s 1 0 0 (no-padding s (i .limit)) (omega (arith, i .inside)))
 
--- ---- a field: the state t is the one after its padding, and x is what its bytes give there
+-- ---- a field: t is the offset after its padding, and x is what its bytes give there
 module _ (d : List ℕ) (s : State) (f : Field) where
   pub field-pad-refused : (j : ℕ) → Skips d s (natural f) 0 (Skipped.Refused j) → Fetches d s (Op.Put f) (Fetched.Refused j)
   unfolding readOp readField
   field-pad-refused j p = record { says = rw (← p .says); stands = tt }
 
-  module _ (t : State) (p : Skips d s (natural f) 0 (Skipped.To t)) (x : Decoded) (g : Decodes d (t .length) (decode (s .big) f (drop (t .length) d)) x) where
+  module _ (t : ℕ) (p : Skips d s (natural f) 0 (Skipped.To t)) (x : Decoded) (g : Decodes d t (decode (s .big) f (drop t d)) x) where
     -- what is decoded, at the place after it
-    abbrev placed : Checked (List Value × ℕ) → Checked (Place ℕ × List Value)
-    placed c = c >>= λ r. accepted (skipped (placeIn d t) (r .1), r .0)
+    abbrev read-on : Checked (Value × ℕ) → Checked (Place ℕ × List Value)
+    read-on c = c >>= λ v. accepted (skipped (placeIn d (placed t s)) (v .1), v .0 ∷ [])
 
-    placed-listed : (c : Checked (Value × ℕ)) → placed (listed c) ≡ (c >>= λ v. accepted (skipped (placeIn d t) (v .1), v .0 ∷ []))
-    placed-listed (refused j) = refl
-    placed-listed (accepted v) = refl
+    after-is : (y : Decoded) → fetchedIs d s (afterOf t y) ≡ read-on (decodedIs d y)
+    after-is (Decoded.Refused j) = refl
+    after-is (Decoded.Read r n) = ap (λ (q : Place ℕ). accepted (q, valueOf d r ∷ [])) (sym (skipped-is d (placed t s) n))
 
-    placed-after : (y : Decoded) → fetchedIs d (afterOf t y) ≡ placed (decodedIs d y)
-    placed-after (Decoded.Refused j) = refl
-    placed-after (Decoded.Read r n) = ap (λ (q : Place ℕ). accepted (q, valuesOf d r)) (sym (skipped-is d t n))
+    after-stands : (y : Decoded) → DecodedInside d t y → FetchedStands d (afterOf t y)
+    after-stands (Decoded.Refused j) i = tt
+    after-stands (Decoded.Read r n) i = (i .1, i .0)
 
-    stands-after : (y : Decoded) → DecodedInside d (t .length) y → FetchedStands d (afterOf t y)
-    stands-after (Decoded.Refused j) i = tt
-    stands-after (Decoded.Read r n) i = (record { inside = i .1; limit = p .stands .limit }, i .0)
-
-    field-is : placed (decodedIs d x) ≡ readOp (placeIn d s) (Op.Put f)
+    field-is : read-on (decodedIs d x) ≡ readOp (placeIn d s) (Op.Put f)
     unfolding readOp readField
-    field-is = ap placed (g .says) ∙ placed-listed (decode (s .big) f (drop (t .length) d)) ∙ rw (← p .says)
+    field-is = ap read-on (g .says) ∙ rw (← p .says)
 
     pub field-after : (r : Fetched) → r ≡ afterOf t x → Fetches d s (Op.Put f) r
-    field-after r e = subst (Fetches d s (Op.Put f)) (sym e) (record { says = placed-after x ∙ field-is; stands = stands-after x (g .inside) })
+    field-after r e = subst (Fetches d s (Op.Put f)) (sym e) (record { says = after-is x ∙ field-is; stands = after-stands x (g .inside) })
 
 -- a field that is decoded inside the data can be counted
-pub countable : (d : List ℕ) (t : State) (c : Checked (Value × ℕ)) (x : Decoded) → length d < 2 ^ 64 → Decodes d (t .length) c x → Countable t x
+pub countable : (d : List ℕ) (t : ℕ) (c : Checked (Value × ℕ)) (x : Decoded) → length d < 2 ^ 64 → Decodes d t c x → Countable t x
 countable d t c x h g = go x (g .inside)
   where
-    go : (y : Decoded) → DecodedInside d (t .length) y → Countable t y
+    go : (y : Decoded) → DecodedInside d t y → Countable t y
     go (Decoded.Refused j) i = tt
     go (Decoded.Read r n) i = omega (arith, i .1)
 
 -- ---- an item
 module _ (d : List ℕ) (s : State) (stands : Stands d s) where
-  pub blank-read : Fetches d s Op.Blank (Fetched.Read s Nothing)
+  pub blank-op : Fetches d s Op.Blank (Fetched.Set s)
   unfolding readOp
-  blank-read = record { says = refl; stands = (stands, tt) }
+  blank-op = record { says = refl; stands = stands }
 
   pub pad-op-refused : (n k j : ℕ) → Skips d s n k (Skipped.Refused j) → Fetches d s (Op.Pad n k) (Fetched.Refused j)
   unfolding readOp
   pad-op-refused n k j p = record { says = rw (← p .says); stands = tt }
 
-  pub pad-op-read : (n k : ℕ) (t : State) → Skips d s n k (Skipped.To t) → Fetches d s (Op.Pad n k) (Fetched.Read t Nothing)
+  pub pad-op : (n k t : ℕ) → Skips d s n k (Skipped.To t) → Fetches d s (Op.Pad n k) (Fetched.Set (placed t s))
   unfolding readOp
-  pad-op-read n k t p = record { says = rw (← p .says); stands = (p .stands, tt) }
+  pad-op n k t p = record { says = rw (← p .says); stands = record { inside = p .inside; limit = stands .limit } }
 
   set-stands : (x : Setting) → T (validSetting x) → Stands d (set x s)
   set-stands (Setting.Order o) h = record { inside = stands .inside; limit = stands .limit }
@@ -135,11 +131,11 @@ module _ (d : List ℕ) (s : State) (stands : Stands d s) where
   set-place (Setting.Order o) = refl
   set-place (Setting.Limit n) = refl
 
-  pub set-read : (x : Setting) (t : State) → T (validSetting x) → t ≡ set x s → Fetches d s (Op.Set x) (Fetched.Read t Nothing)
+  pub set-op : (x : Setting) (t : State) → T (validSetting x) → t ≡ set x s → Fetches d s (Op.Set x) (Fetched.Set t)
   unfolding readOp
-  set-read x t h e = record {
+  set-op x t h e = record {
     says = ap (λ (u : State). accepted (placeIn d u, [])) e ∙ ap (λ (q : Place ℕ). accepted (q, [])) (set-place x);
-    stands = (subst (Stands d) (sym e) (set-stands x h), tt);
+    stands = subst (Stands d) (sym e) (set-stands x h);
   }
 
 -- ---- by the variant

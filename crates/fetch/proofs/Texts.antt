@@ -13,7 +13,7 @@ use Rattle.definition.specs.Values.{Value, text}
 use Rattle.definition.specs.Fields.{first, short, upToZero, number, unsigned, decode}
 use Rattle.definition.specs.declared.Field.the-variants as Field
 use Rattle.coder.specs.Numbers.{unsignedAt}
-use Rattle.fetch.specs.Readings.{listed, Decodes, ZeroFrom}
+use Rattle.fetch.specs.Readings.{Decodes, ZeroFrom}
 use Rattle.fetch.specs.declared.decode.Reading.{Reading}
 use Rattle.fetch.specs.declared.decode.Reading.the-variants.{Text}
 use Rattle.fetch.specs.declared.decode.Decoded.the-variants as Decoded
@@ -140,14 +140,14 @@ abbrev counting : ℕ → Checked (List ℕ) → Checked (Value × ℕ)
 counting m c = c >>= λ t. short t >>= λ u. accepted (text u, m)
 
 -- n bytes more are read, and all else is the same
-abbrev more : ℕ → Checked (List Value × ℕ) → Checked (List Value × ℕ)
+abbrev more : ℕ → Checked (Value × ℕ) → Checked (Value × ℕ)
 more n c = c >>= λ r. accepted (r .0, n + r .1)
 
-counting-more : (n k : ℕ) (c : Checked (List ℕ)) → listed (counting (n + k) c) ≡ more n (listed (counting k c))
+counting-more : (n k : ℕ) (c : Checked (List ℕ)) → counting (n + k) c ≡ more n (counting k c)
 counting-more n k (refused j) = refl
 counting-more n k (accepted t) = go (short t)
   where
-    go : (c : Checked (List ℕ)) → listed (c >>= λ u. accepted (text u, n + k)) ≡ more n (listed (c >>= λ u. accepted (text u, k)))
+    go : (c : Checked (List ℕ)) → (c >>= λ u. accepted (text u, n + k)) ≡ more n (c >>= λ u. accepted (text u, k))
     go (refused j) = refl
     go (accepted u) = refl
 
@@ -164,7 +164,7 @@ module _ (o : Bool) (n at : ℕ) (d : List ℕ) where
   counted-wide e = record { says = rw (decode-counted, ← e); inside = tt }
 
   module _ (k : ℕ) (e : accepted k ≡ unsignedAt o n (drop at d)) where
-    behind : listed (decode o (Field.Counted n) (drop at d)) ≡ more n (listed (decode o (Field.Chars k) (drop (at + n) d)))
+    behind : decode o (Field.Counted n) (drop at d) ≡ more n (decode o (Field.Chars k) (drop (at + n) d))
     unfolding decode
     behind = rw (decode-counted, ← e, drop-drop n at d) (counting-more n k (first k (drop (at + n) d)))
 

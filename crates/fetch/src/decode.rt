@@ -17,9 +17,8 @@ ghost use Rattle.definition.specs.declared.Kind.the-variants as kind;
 ghost use Rattle.definition.proofs.Numbers.{validSize};
 ghost use Rattle.fetch.specs.Readings.{Decodes, ZeroFrom};
 
-// What an item reads: nothing, an integer, a float by its 64 bits, or a text by its offset in the data and its length.
+// A value that is read: an integer, a float by its 64 bits, or a text by its offset in the data and its length.
 pub enum Reading {
-    Nothing,
     Integer(i64),
     Float(u64),
     Text(usize, usize),

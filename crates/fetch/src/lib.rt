@@ -1,4 +1,4 @@
-// What one item reads of the data: the state after it and its value, or its refusal.
+// What one item does to the state and reads of the data, or its refusal.
 pub mod decode;
 
 use crate::decode::Decoded;
@@ -23,16 +23,19 @@ ghost use Rattle.definition.proofs.Fields.{validField};
 ghost use Rattle.definition.proofs.Ops.{validOp};
 ghost use Rattle.fetch.specs.Readings.{Stands, Skips, Countable, afterOf, Fetches};
 
-// The state after some bytes, or the number of a refusal. The state's length is the offset in the data.
+// The offset after some bytes, or the number of a refusal.
 pub enum Skipped {
     Refused(u8),
-    To(State),
+    To(u64),
 }
 
-// The state after an item and what it reads, or the number of a refusal.
+// What an item does, or the number of a refusal.
 pub enum Fetched {
     Refused(u8),
-    Read(State, Reading),
+    // The next state, and no value.
+    Set(State),
+    // A value, and the offset after it.
+    Read(Reading, u64),
 }
 
 // Past an alignment by n, and k bytes: 6, 17.
@@ -50,30 +53,19 @@ fn read_pad(data: &[u8], s: State, n: u64, k: u64) -> Skipped
             if left - p < k {
                 return Skipped::Refused(17);
             }
-            Skipped::To(State {
-                big: s.big,
-                limit: s.limit,
-                length: s.length + p + k,
-            })
+            Skipped::To(s.length + p + k)
         }
     }
 }
 
-// What was decoded at a state, and the state after it.
-fn after(s: State, x: Decoded) -> Fetched
-    requires { ⌜ Countable s x ⌝ }
-    ensures { λ r. ⌜ r ≡ afterOf s x ⌝ }
+// What was decoded at an offset, and the offset after it.
+fn after(at: u64, x: Decoded) -> Fetched
+    requires { ⌜ Countable at x ⌝ }
+    ensures { λ r. ⌜ r ≡ afterOf at x ⌝ }
 {
     match x {
         Decoded::Refused(k) => Fetched::Refused(k),
-        Decoded::Read(r, n) => Fetched::Read(
-            State {
-                big: s.big,
-                limit: s.limit,
-                length: s.length + n,
-            },
-            r,
-        ),
+        Decoded::Read(r, n) => Fetched::Read(r, at + n),
     }
 }
 
@@ -84,7 +76,7 @@ fn read_number(data: &[u8], s: State, kind: Kind, size: u64) -> Fetched
 {
     match read_pad(data, s, size, 0) {
         Skipped::Refused(k) => Fetched::Refused(k),
-        Skipped::To(t) => after(t, number(data, t.length as usize, s.big, kind, size)),
+        Skipped::To(t) => after(t, number(data, t as usize, s.big, kind, size)),
     }
 }
 
@@ -96,24 +88,28 @@ fn read_field(data: &[u8], s: State, f: Field) -> Fetched
     let at = s.length as usize;
     match f {
         Field::Number(kind, size) => read_number(data, s, kind, size),
-        Field::Chars(n) => after(s, text(data, at, n)),
-        Field::ZeroEnded => after(s, zero_ended(data, at)),
-        Field::Counted(size) => after(s, counted(data, at, s.big, size)),
+        Field::Chars(n) => after(s.length, text(data, at, n)),
+        Field::ZeroEnded => after(s.length, zero_ended(data, at)),
+        Field::Counted(size) => after(s.length, counted(data, at, s.big, size)),
     }
 }
 
-// What an item reads at a state, whose length is the offset in the data.
+// What an item does at a state, whose length is the offset in the data.
 pub fn read_op(data: &[u8], s: State, op: Op) -> Fetched
     requires { ⌜ Stands (now «data») s ⌝ ∗ ⌜ T (validOp op) ⌝ }
     ensures { λ r. ⌜ Fetches (now («data» .entry)) s op r ⌝ }
 {
     match op {
         Op::Put(f) => read_field(data, s, f),
-        Op::Blank => Fetched::Read(s, Reading::Nothing),
-        Op::Set(x) => Fetched::Read(set(s, x), Reading::Nothing),
+        Op::Blank => Fetched::Set(s),
+        Op::Set(x) => Fetched::Set(set(s, x)),
         Op::Pad(n, k) => match read_pad(data, s, n, k) {
             Skipped::Refused(number) => Fetched::Refused(number),
-            Skipped::To(t) => Fetched::Read(t, Reading::Nothing),
+            Skipped::To(t) => Fetched::Set(State {
+                big: s.big,
+                limit: s.limit,
+                length: t,
+            }),
         },
     }
 }

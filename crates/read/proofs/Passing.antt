@@ -3,7 +3,7 @@ use Prim.Native.Nat.{ℕ, _+_, _^_, _≤_, _<_}
 use native.Mathlib.Omega.{arith}
 use mathlib.Core.Path.{_≡_, refl, sym, ap, _∙_, subst}
 use mathlib.Core.Bool.{Bool, true, false, cond}
-use mathlib.Core.List.{List, [], _++_}
+use mathlib.Core.List.{List, [], _∷_, _++_}
 use mathlib.Core.Option.{none, some}
 use lib.ListN.{length, take, drop, length-append, length-drop}
 use lib.Seq.{paste, take-at, take-all, drop-drop, drop-append-add}
@@ -17,14 +17,15 @@ use Rattle.definition.specs.declared.State.{State}
 use Rattle.definition.specs.declared.Op.{Op}
 use Rattle.definition.proofs.Answers.{never, after-accepted}
 use Rattle.definition.proofs.Lists.{list-append}
+use Rattle.definition.proofs.Steps.{placed}
 use Rattle.format.specs.Steps.{nextAt}
-use Rattle.fetch.specs.Readings.{valuesOf, Inside, Stands, placeIn, FetchedStands, Fetches}
+use Rattle.fetch.specs.Readings.{valueOf, Inside, Stands, placeIn, FetchedStands, Fetches}
 use Rattle.fetch.specs.declared.decode.Reading.{Reading}
 use Rattle.fetch.specs.declared.Fetched.{Fetched}
 use Rattle.fetch.specs.declared.Fetched.the-variants as Fetched
 use Rattle.read.specs.Runs.{readAt, sizeOf, Short, SameTo63, Reads, Fits, listInto, listAfter}
 use Rattle.read.proofs.Sizes.{no-values, list-parts, size-is, short}
-use Rattle.read.proofs.Runs.{SoFar, from-start, run-end, run-refusal, item-refused, item-read}
+use Rattle.read.proofs.Runs.{SoFar, from-start, run-end, run-refusal, item-refused, item-set, item-read}
 
 -- x at the front of b
 abbrev fronted : List ℕ → List ℕ → List ℕ
@@ -93,11 +94,17 @@ module _ {f d : List ℕ} {s₀ : State} {b : List ℕ} {put : Bool} {at : ℕ} 
     pub passing-refused : {k : ℕ} → r ≡ Fetched.Refused k → (readAt f d s₀ ≡ refused k) × (l ≡ answer)
     passing-refused e = refused-list (item-refused (h .so-far) q g e)
 
-    module _ {t : State} {v : Reading} (e : r ≡ Fetched.Read t v) where
+    pub passing-set : {t : State} → r ≡ Fetched.Set t → Passing f d s₀ b put p t l total
+    passing-set e = record { done = h .done; so-far = item-set (h .so-far) q g e; counted = h .counted; holds = h .holds }
+
+    module _ {v : Reading} {n : ℕ} (e : r ≡ Fetched.Read v n) where
+      abbrev more : List Value
+      more = h .done ++ (valueOf d v ∷ [])
+
       inside : Inside d v
       inside = subst (FetchedStands d) e (g .stands) .1
 
-      next : SoFar f d (readAt f d s₀) p t (h .done ++ valuesOf d v)
+      next : SoFar f d (readAt f d s₀) p (placed n s) more
       next = item-read (h .so-far) q g e
 
       pub passing-short : Short v
@@ -110,23 +117,23 @@ module _ {f d : List ℕ} {s₀ : State} {b : List ℕ} {put : Bool} {at : ℕ} 
         pub passing-room : (total + sizeOf v ≤ length l) × Inside d v
         passing-room =
             let a = fits i in
-            (omega (arith, exact, within next (a .accepts), list-append (h .done) (valuesOf d v), size-is d v inside, passing-length, a .room), inside)
+            (omega (arith, exact, within next (a .accepts), list-append (h .done) (valueOf d v ∷ []), size-is d v inside, passing-length, a .room), inside)
 
-        pub passing-put : (k : List ℕ) → k ≡ paste l total (listOf (valuesOf d v)) (sizeOf v) → k ≡ cond put (fronted (listOf (h .done ++ valuesOf d v)) b) b
+        pub passing-put : (k : List ℕ) → k ≡ paste l total (listOf (valueOf d v ∷ [])) (sizeOf v) → k ≡ cond put (fronted (listOf (more)) b) b
         passing-put k c =
             let x : l ≡ fronted (listOf (h .done)) b = h .holds ∙ ap (λ (t : Bool). cond t (fronted (listOf (h .done)) b) b) i in
             c
-            ∙ ap (λ (j : ℕ). paste l j (listOf (valuesOf d v)) (sizeOf v)) exact
-            ∙ ap (λ (y : List ℕ). paste y (length (listOf (h .done))) (listOf (valuesOf d v)) (sizeOf v)) x
-            ∙ paste-behind (listOf (h .done)) (listOf (valuesOf d v)) b (sizeOf v) (size-is d v inside)
-            ∙ ap (λ (y : List ℕ). fronted y b) (sym (list-parts (h .done) (valuesOf d v)))
-            ∙ sym (ap (λ (t : Bool). cond t (fronted (listOf (h .done ++ valuesOf d v)) b) b) i)
+            ∙ ap (λ (j : ℕ). paste l j (listOf (valueOf d v ∷ [])) (sizeOf v)) exact
+            ∙ ap (λ (y : List ℕ). paste y (length (listOf (h .done))) (listOf (valueOf d v ∷ [])) (sizeOf v)) x
+            ∙ paste-behind (listOf (h .done)) (listOf (valueOf d v ∷ [])) b (sizeOf v) (size-is d v inside)
+            ∙ ap (λ (y : List ℕ). fronted y b) (sym (list-parts (h .done) (valueOf d v ∷ [])))
+            ∙ sym (ap (λ (t : Bool). cond t (fronted (listOf (more)) b) b) i)
 
-      pub passing-kept : put ≡ false → l ≡ cond put (fronted (listOf (h .done ++ valuesOf d v)) b) b
-      passing-kept i = h .holds ∙ ap (λ (t : Bool). cond t (fronted (listOf (h .done)) b) b) i ∙ sym (ap (λ (t : Bool). cond t (fronted (listOf (h .done ++ valuesOf d v)) b) b) i)
+      pub passing-kept : put ≡ false → l ≡ cond put (fronted (listOf (more)) b) b
+      passing-kept i = h .holds ∙ ap (λ (t : Bool). cond t (fronted (listOf (h .done)) b) b) i ∙ sym (ap (λ (t : Bool). cond t (fronted (listOf (more)) b) b) i)
 
-      -- a field of n bytes more makes the total m
-      pub passing-more : {k : List ℕ} {n m : ℕ} → k ≡ cond put (fronted (listOf (h .done ++ valuesOf d v)) b) b → n ≡ sizeOf v → ((j : ℕ) → SameTo63 total j → SameTo63 m (j + n)) → Passing f d s₀ b put p t k m
-      passing-more {k} {n} {m} c z add =
-          let j : length (listOf (h .done)) + n ≡ length (listOf (h .done ++ valuesOf d v)) = omega (arith, list-append (h .done) (valuesOf d v), size-is d v inside, z) in
-          record { done = h .done ++ valuesOf d v; so-far = next; counted = rw (← j) (add (length (listOf (h .done))) (h .counted)); holds = c }
+      -- a field of c bytes more makes the total m
+      pub passing-more : {k : List ℕ} {c m : ℕ} → k ≡ cond put (fronted (listOf more) b) b → c ≡ sizeOf v → ((j : ℕ) → SameTo63 total j → SameTo63 m (j + c)) → Passing f d s₀ b put p (placed n s) k m
+      passing-more {k} {c} {m} y z add =
+          let j : length (listOf (h .done)) + c ≡ length (listOf more) = omega (arith, list-append (h .done) (valueOf d v ∷ []), size-is d v inside, z) in
+          record { done = more; so-far = next; counted = rw (← j) (add (length (listOf (h .done))) (h .counted)); holds = y }

@@ -14,9 +14,10 @@ use Rattle.definition.specs.Reading.{readOp, readItem, reading}
 use Rattle.definition.specs.declared.State.{State}
 use Rattle.definition.specs.declared.Op.{Op}
 use Rattle.definition.proofs.Ops.{validOp, op-valid}
+use Rattle.definition.proofs.Steps.{placed}
 use Rattle.format.specs.Steps.{nextAt}
 use Rattle.format.proofs.Walking.{at-end, at-refusal, at-item}
-use Rattle.fetch.specs.Readings.{valuesOf, Stands, placeIn, fetchedIs, FetchedStands, Fetches}
+use Rattle.fetch.specs.Readings.{valueOf, Stands, placeIn, fetchedIs, FetchedStands, Fetches}
 use Rattle.fetch.specs.declared.decode.Reading.{Reading}
 use Rattle.fetch.specs.declared.Fetched.{Fetched}
 use Rattle.fetch.specs.declared.Fetched.the-variants as Fetched
@@ -70,16 +71,22 @@ module _ {f d : List ℕ} {w : Checked (Place ℕ × List Value)} {at : ℕ} {s 
 
   -- the item at the place does o, the next one stands at p, and r is what the item reads
   module _ {o : Op} {p : ℕ} (q : nextAt at (drop at f) ≡ accepted (some (o, p))) {r : Fetched} (g : Fetches d s o r) where
-    by-item : w ≡ onto vs (fetchedIs d r >>= λ x. onto (x .1) (reading (x .0) (items (drop p f))))
+    by-item : w ≡ onto vs (fetchedIs d s r >>= λ x. onto (x .1) (reading (x .0) (items (drop p f))))
     by-item =
         let x = at-item f at o p q in
-        h .whole ∙ ap (λ (is : List Item). onto vs (reading (placeIn d s) is)) (x .are) ∙ ap (onto vs) (reading-item (placeIn d s) (x .first) (items (drop p f)) o (x .does) (fetchedIs d r) (sym (g .says)))
+        h .whole ∙ ap (λ (is : List Item). onto vs (reading (placeIn d s) is)) (x .are) ∙ ap (onto vs) (reading-item (placeIn d s) (x .first) (items (drop p f)) o (x .does) (fetchedIs d s r) (sym (g .says)))
 
     pub item-refused : {k : ℕ} → r ≡ Fetched.Refused k → w ≡ refused k
     item-refused e = by-item ∙ rw e
 
-    pub item-read : {t : State} {v : Reading} → r ≡ Fetched.Read t v → SoFar f d w p t (vs ++ valuesOf d v)
-    item-read {t} {v} e = record {
-      whole = by-item ∙ rw e (onto-onto vs (valuesOf d v) (reading (placeIn d t) (items (drop p f))));
-      stands = subst (FetchedStands d) e (g .stands) .0;
+    pub item-set : {t : State} → r ≡ Fetched.Set t → SoFar f d w p t vs
+    item-set {t} e = record {
+      whole = by-item ∙ rw e (ap (onto vs) (sym (onto-none (reading (placeIn d t) (items (drop p f))))));
+      stands = subst (FetchedStands d) e (g .stands);
+    }
+
+    pub item-read : {v : Reading} {n : ℕ} → r ≡ Fetched.Read v n → SoFar f d w p (placed n s) (vs ++ (valueOf d v ∷ []))
+    item-read {v} {n} e = record {
+      whole = by-item ∙ rw e (onto-onto vs (valueOf d v ∷ []) (reading (placeIn d (placed n s)) (items (drop p f))));
+      stands = record { inside = subst (FetchedStands d) e (g .stands) .0; limit = h .stands .limit };
     }

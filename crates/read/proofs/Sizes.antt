@@ -9,9 +9,9 @@ use Rattle.definition.specs.Bytes.{bits}
 use Rattle.definition.specs.Values.{Value, integer, float, text}
 use Rattle.definition.specs.Lists.{big, tag, content, listOf}
 use Rattle.definition.proofs.Lists.{length-big, length-list}
-use Rattle.fetch.specs.Readings.{valuesOf, Inside}
+use Rattle.fetch.specs.Readings.{valueOf, Inside}
 use Rattle.fetch.specs.declared.decode.Reading.{Reading}
-use Rattle.fetch.specs.declared.decode.Reading.the-variants.{Nothing, Integer, Float, Text}
+use Rattle.fetch.specs.declared.decode.Reading.the-variants.{Integer, Float, Text}
 use Rattle.read.specs.Runs.{sizeOf, Short}
 
 pub list-parts : (x y : List Value) → listOf (x ++ y) ≡ listOf x ++ listOf y
@@ -29,15 +29,13 @@ no-values = refl
 one-value : (v : Value) (n : ℕ) → length (content v) ≡ n → length (listOf (v ∷ [])) ≡ 3 + n
 one-value v n e = omega (arith, length-list v [], no-values, e)
 
--- what is read has the length that is counted for it
-pub size-is : (d : List ℕ) (r : Reading) → Inside d r → length (listOf (valuesOf d r)) ≡ sizeOf r
-size-is d Nothing h = no-values
+-- a value has the length that is counted for it
+pub size-is : (d : List ℕ) (r : Reading) → Inside d r → length (listOf (valueOf d r ∷ [])) ≡ sizeOf r
 size-is d (Integer z) h = one-value (integer z) 8 (length-big 8 (bits z))
 size-is d (Float b) h = one-value (float b) 8 (length-big 8 b)
 size-is d (Text start n) h = one-value (text (take n (drop start d))) n (length-take-le n (drop start d) (omega (arith, length-drop start d, h .0)))
 
 pub short : (d : List ℕ) (r : Reading) → Inside d r → Short r
-short d Nothing h = tt
 short d (Integer z) h = tt
 short d (Float b) h = tt
 short d (Text start n) h = h .1
@@ -53,5 +51,5 @@ pub room-for : {r q : Reading} (at : ℕ) (l : List ℕ) → r ≡ q → at + si
 room-for at l e h = rw (← e) h
 
 -- the field of q is put, and r is q
-pub field-put : {r q : Reading} (d k l : List ℕ) (at : ℕ) → r ≡ q → k ≡ paste l at (listOf (valuesOf d q)) (sizeOf q) → k ≡ paste l at (listOf (valuesOf d r)) (sizeOf r)
+pub field-put : {r q : Reading} (d k l : List ℕ) (at : ℕ) → r ≡ q → k ≡ paste l at (listOf (valueOf d q ∷ [])) (sizeOf q) → k ≡ paste l at (listOf (valueOf d r ∷ [])) (sizeOf r)
 field-put d k l at e f = rw e f

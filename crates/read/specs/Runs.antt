@@ -13,7 +13,7 @@ use Rattle.definition.specs.declared.State.{State}
 use Rattle.definition.specs.declared.Offset.{Offset}
 use Rattle.fetch.specs.Readings.{placeIn}
 use Rattle.fetch.specs.declared.decode.Reading.{Reading}
-use Rattle.fetch.specs.declared.decode.Reading.the-variants.{Nothing, Integer, Float, Text}
+use Rattle.fetch.specs.declared.decode.Reading.the-variants.{Integer, Float, Text}
 use Rattle.read.specs.declared.pass.Total.{Total}
 use Rattle.read.specs.declared.pass.Total.the-variants.{Refused, Of}
 
@@ -23,16 +23,14 @@ readAt f d s = reading (placeIn d s) (items f)
 
 -- ---- lengths
 
--- the length of the field of what is read
+-- the length of the field of a value
 abbrev pub sizeOf : Reading → ℕ
-sizeOf Nothing = 0
 sizeOf (Integer z) = 11
 sizeOf (Float b) = 11
 sizeOf (Text start n) = 3 + n
 
 -- a value list can hold it
 abbrev pub Short : Reading → Type 0
-Short Nothing = Unit {0}
 Short (Integer z) = Unit {0}
 Short (Float b) = Unit {0}
 Short (Text start n) = n ≤ 65535

@@ -11,11 +11,12 @@ use values::put_integer;
 use values::put_text;
 ghost use mathlib.Core.Path.{_≡_};
 ghost use mathlib.Core.Bool.{true, cond};
+ghost use mathlib.Core.List.{[], _∷_};
 ghost use Prim.Native.Nat.{ℕ, _+_, _≤_};
 ghost use lib.ListN.{length};
 ghost use lib.Seq.{paste};
 ghost use Rattle.definition.specs.Lists.{listOf};
-ghost use Rattle.fetch.specs.Readings.{valuesOf, Inside, Stands};
+ghost use Rattle.fetch.specs.Readings.{valueOf, Inside, Stands};
 ghost use Rattle.format.specs.Packed.{packed};
 ghost use Rattle.read.specs.Runs.{sizeOf, Short, SameTo63, Checks, Fits, listAfter};
 
@@ -26,13 +27,12 @@ pub enum Total {
     Of(u64, Offset),
 }
 
-// The length of the field of what is read.
+// The length of the field of a value.
 fn size_of(r: Reading) -> u64
     requires { ⌜ Short r ⌝ }
     ensures { λ n. ⌜ (n ≡ sizeOf r) × (n ≤ 65538) ⌝ }
 {
     match r {
-        Reading::Nothing => 0,
         Reading::Integer(_) => 11,
         Reading::Float(_) => 11,
         Reading::Text(_, n) => 3 + n as u64,
@@ -51,13 +51,12 @@ fn sum(total: u64, n: u64) -> u64
     }
 }
 
-// Puts the field of what is read at `at`.
+// Puts the field of a value at `at`.
 fn put_reading(list: &mut [u8], at: usize, data: &[u8], r: Reading)
     requires { ⌜ at + sizeOf r ≤ length (now list) ⌝ ∗ ⌜ Inside (now «data») r ⌝ }
-    ensures { λ _. ⌜ now (list .exit) ≡ paste (now (list .entry)) at (listOf (valuesOf (now («data» .entry)) r)) (sizeOf r) ⌝ }
+    ensures { λ _. ⌜ now (list .exit) ≡ paste (now (list .entry)) at (listOf (valueOf (now («data» .entry)) r ∷ [])) (sizeOf r) ⌝ }
 {
     match r {
-        Reading::Nothing => {}
         Reading::Integer(z) => put_integer(list, at, z),
         Reading::Float(bits) => put_float(list, at, bits),
         Reading::Text(start, n) => put_text(list, at, data, start, n),
@@ -87,16 +86,20 @@ pub fn pass(
             Next::Refused(k) => return Total::Refused(k),
             Next::Item(i, d) => match read_op(data, s, i.op()) {
                 Fetched::Refused(k) => return Total::Refused(k),
-                Fetched::Read(t, r) => {
-                    if put {
-                        put_reading(list, total as usize, data, r);
-                    }
-                    total = sum(total, size_of(r));
+                Fetched::Set(t) => {
                     s = State {
                         big: t.big,
                         limit: t.limit,
                         length: t.length,
                     };
+                    c = d;
+                }
+                Fetched::Read(r, next) => {
+                    if put {
+                        put_reading(list, total as usize, data, r);
+                    }
+                    total = sum(total, size_of(r));
+                    s.length = next;
                     c = d;
                 }
             },

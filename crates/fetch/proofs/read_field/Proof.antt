@@ -17,7 +17,7 @@ text-requires : tie.Need-text-requires
 text-requires c κs = c .before .before .before .before .pre .0 .inside
 
 after-requires : tie.Need-after-requires
-after-requires c κs = let s = c .before .before .before .before .before in countable (s .args .«data» .now) (s .args .s) _ _ (s .good .0 .0) (c .text .ensures (s .args .s .big))
+after-requires c κs = let s = c .before .before .before .before .before in countable (s .args .«data» .now) (s .args .s .length) _ _ (s .good .0 .0) (c .text .ensures (s .args .s .big))
 
 enum-told : tie.Need-enum-told
 enum-told c = search needs
@@ -26,7 +26,7 @@ zero-ended-requires : tie.Need-zero-ended-requires
 zero-ended-requires c κs = c .before .before .before .pre .0 .inside
 
 after-requires-2 : tie.Need-after-requires-2
-after-requires-2 c κs = let s = c .before .before .before .before in countable (s .args .«data» .now) (s .args .s) _ _ (s .good .0 .0) (c .zero-ended .ensures (s .args .s .big))
+after-requires-2 c κs = let s = c .before .before .before .before in countable (s .args .«data» .now) (s .args .s .length) _ _ (s .good .0 .0) (c .zero-ended .ensures (s .args .s .big))
 
 enum-known-f-3 : tie.Need-enum-known-f-3
 enum-known-f-3 c = search needs
@@ -35,19 +35,19 @@ counted-requires : tie.Need-counted-requires
 counted-requires c κs = c .before .before .before .before .pre .0 .inside
 
 after-requires-3 : tie.Need-after-requires-3
-after-requires-3 c κs = let s = c .before .before .before .before .before in countable (s .args .«data» .now) (s .args .s) _ _ (s .good .0 .0) (c .counted .ensures)
+after-requires-3 c κs = let s = c .before .before .before .before .before in countable (s .args .«data» .now) (s .args .s .length) _ _ (s .good .0 .0) (c .counted .ensures)
 
 returns : tie.Need-returns
 returns c = of-field _ _ _ _ _ (c .before .before .f .given .1) (c .read-number .ensures)
 
 returns-2 : tie.Need-returns-2
-returns-2 c = let s = c .before .before .before .before .before .before in of-field _ _ _ _ _ (c .before .before .before .f2 .given .1) (field-after (s .args .«data» .now) (s .args .s) _ (s .args .s) (unaligned _ _ (s .pre .0)) _ (c .before .text .ensures (s .args .s .big)) _ (c .after .ensures))
+returns-2 c = let s = c .before .before .before .before .before .before in of-field _ _ _ _ _ (c .before .before .before .f2 .given .1) (field-after (s .args .«data» .now) (s .args .s) _ (s .args .s .length) (unaligned _ _ (s .pre .0)) _ (c .before .text .ensures (s .args .s .big)) _ (c .after .ensures))
 
 returns-3 : tie.Need-returns-3
-returns-3 c = let s = c .before .before .before .before .before in of-field _ _ _ _ _ (c .before .before .enum-told .given .1) (field-after (s .args .«data» .now) (s .args .s) _ (s .args .s) (unaligned _ _ (s .pre .0)) _ (c .before .zero-ended .ensures (s .args .s .big)) _ (c .after2 .ensures))
+returns-3 c = let s = c .before .before .before .before .before in of-field _ _ _ _ _ (c .before .before .enum-told .given .1) (field-after (s .args .«data» .now) (s .args .s) _ (s .args .s .length) (unaligned _ _ (s .pre .0)) _ (c .before .zero-ended .ensures (s .args .s .big)) _ (c .after2 .ensures))
 
 returns-4 : tie.Need-returns-4
-returns-4 c = let s = c .before .before .before .before .before .before in of-field _ _ _ _ _ (c .before .before .before .f3 .given .1) (field-after (s .args .«data» .now) (s .args .s) _ (s .args .s) (unaligned _ _ (s .pre .0)) _ (c .before .counted .ensures) _ (c .after3 .ensures))
+returns-4 c = let s = c .before .before .before .before .before .before in of-field _ _ _ _ _ (c .before .before .before .f3 .given .1) (field-after (s .args .«data» .now) (s .args .s) _ (s .args .s .length) (unaligned _ _ (s .pre .0)) _ (c .before .counted .ensures) _ (c .after3 .ensures))
 
 pub read-field-spec : {M : Type 1} → statement M
 read-field-spec =

@@ -1,4 +1,4 @@
--- `read_number` meets its contract: the place after the padding, and there the value.
+-- `read_number` meets its contract: the offset after the padding, and there the value.
 use Rattle.fetch.proofs.Places.{field-pad-refused, field-after, countable, pad-told}
 use borrow.Author.Needs.{needs}
 use Rattle.fetch.proofs.read_number.Statement.{statement}
@@ -14,7 +14,7 @@ enum-known-t : tie.Need-enum-known-t
 enum-known-t c = search needs
 
 number-requires : tie.Need-number-requires
-number-requires c κs = (pad-told (c .before .t .given .1) (c .before .before .before .read-pad .ensures) .stands .inside, c .before .before .before .before .before .pre .1)
+number-requires c κs = (pad-told (c .before .t .given .1) (c .before .before .before .read-pad .ensures) .inside, c .before .before .before .before .before .pre .1)
 
 after-requires : tie.Need-after-requires
 after-requires c κs = countable _ _ _ _ (c .before .before .before .before .before .before .good .0 .0) (c .number .ensures)

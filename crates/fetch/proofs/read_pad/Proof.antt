@@ -1,4 +1,4 @@
--- `read_pad` meets its contract: 6 of the padding, 17 where the data end, else the place after it.
+-- `read_pad` meets its contract: 6 of the padding, 17 where the data end, else the offset after it.
 use native.Mathlib.Omega.{arith}
 use mathlib.Core.Path.{sym, ap, _∙_}
 use Rattle.align.specs.Amounts.{amountOf}
@@ -35,7 +35,7 @@ returns-3 : tie.Need-returns-3
 returns-3 c = let s = c .before .before .before .before .before in pad-refused (s .args .«data» .now) (s .args .s) (s .args .n) (s .args .k) (c .before .number .given .0 .0) (sym (ap amountOf (c .before .number .given .1)) ∙ c .before .before .before .padding .ensures)
 
 returns-4 : tie.Need-returns-4
-returns-4 c = let s = c .before .before .before .before .before .before .before .before .before in pad-read (s .args .«data» .now) (s .args .s) (s .args .n) (s .args .k) (c .before .before .before .before .before .p .given .0 .0) (sym (ap amountOf (c .before .before .before .before .before .p .given .1)) ∙ c .before .before .before .before .before .before .before .padding .ensures) (s .pre) (omega arith)
+returns-4 c = let s = c .before .before .before .before .before .before .before .before .before in pad-read (s .args .«data» .now) (s .args .s) (s .args .n) (s .args .k) (c .before .before .before .before .before .p .given .0 .0) (sym (ap amountOf (c .before .before .before .before .before .p .given .1)) ∙ c .before .before .before .before .before .before .before .padding .ensures) (omega arith)
 
 pub read-pad-spec : {M : Type 1} → statement M
 read-pad-spec =

@@ -9,7 +9,7 @@ use Rattle.definition.specs.Answers.{accepted}
 use Rattle.definition.specs.declared.Op.{Op}
 use Rattle.format.specs.Steps.{nextAt, nextOf}
 use Rattle.read.proofs.Runs.{valid, ahead}
-use Rattle.read.proofs.Passing.{Passing, passing-none, passing-length, passing-end, passing-refusal, passing-refused, passing-short, passing-room, passing-put, passing-kept, passing-more}
+use Rattle.read.proofs.Passing.{Passing, passing-none, passing-length, passing-end, passing-refusal, passing-refused, passing-set, passing-short, passing-room, passing-put, passing-kept, passing-more}
 use Rattle.read.proofs.pass.pass.Statement.{statement}
 use Rattle.read.proofs.pass.pass.Tie as tie
 
@@ -74,20 +74,62 @@ returns-3 c = passing-refused (c .before .before .before .before .before .before
 enum-known-t : tie.Need-enum-known-t Inv-loop μ-loop
 enum-known-t c = c .match2 .keys2
 
+loop-less : tie.Need-loop-less Inv-loop μ-loop
+loop-less c =
+    let o = c .before .before .before .before in
+    let l = o .before .before .before .before .before in
+    let h = ahead (l .before .before .before .before .before .args .format .now) (l .loop .c .at) (item o) in
+    omega arith
+
+loop-again : tie.Need-loop-again Inv-loop μ-loop
+loop-again c =
+    let x = c .before in
+    let o = x .before .before .before in
+    let l = o .before .before .before .before .before in
+    passing-set (l .loop .inv) (l .before .before .before .before .before .pre .1 .1) (item o) (x .before .before .read-op .ensures) (x .t .given .1)
+
+enum-known-r : tie.Need-enum-known-r Inv-loop μ-loop
+enum-known-r c = c .match2 .keys3
+
 put-reading-requires : tie.Need-put-reading-requires Inv-loop μ-loop
-put-reading-requires c κs = passing-room (c .before .before .before .before .before .before .before .before .before .before .before .loop .inv) (c .before .before .before .before .before .before .before .before .before .before .before .before .before .before .before .before .pre .1 .1) (item (c .before .before .before .before .before .before)) (c .before .before .before .before .before .read-op .ensures) (c .before .before .before .t .given .1) (c .before .if1 .taken) (list-short (c .before .before .before .before .before .before .before .before .before .before .before .before .before .before .before .before))
+put-reading-requires c κs =
+    let x = c .before .before .before in
+    let o = x .before .before .before in
+    let l = o .before .before .before .before .before in
+    let s = l .before .before .before .before .before in
+    passing-room (l .loop .inv) (s .pre .1 .1) (item o) (x .before .before .read-op .ensures) (x .r .given .1) (c .before .if1 .taken) (list-short s)
 
 size-of-requires : tie.Need-size-of-requires Inv-loop μ-loop
-size-of-requires c κs = passing-short (c .before .before .before .before .before .before .before .before .before .before .loop .inv) (c .before .before .before .before .before .before .before .before .before .before .before .before .before .before .before .pre .1 .1) (item (c .before .before .before .before .before)) (c .before .before .before .before .read-op .ensures) (c .before .before .t .given .1)
+size-of-requires c κs =
+    let x = c .before .before in
+    let o = x .before .before .before in
+    let l = o .before .before .before .before .before in
+    passing-short (l .loop .inv) (l .before .before .before .before .before .pre .1 .1) (item o) (x .before .before .read-op .ensures) (x .r .given .1)
 
 sum-requires : tie.Need-sum-requires Inv-loop μ-loop
 sum-requires c κs = c .size-of .ensures .1
 
-loop-less : tie.Need-loop-less Inv-loop μ-loop
-loop-less c = let h = ahead (c .before .before .before .before .before .before .before .before .before .before .before .before .before .before .before .before .before .args .format .now) (c .before .before .before .before .before .before .before .before .before .before .before .before .loop .c .at) (item (c .before .before .before .before .before .before .before)) in omega arith
+loop-less-2 : tie.Need-loop-less-2 Inv-loop μ-loop
+loop-less-2 c =
+    let o = c .before .before .before .before .before .before .before in
+    let l = o .before .before .before .before .before in
+    let h = ahead (l .before .before .before .before .before .args .format .now) (l .loop .c .at) (item o) in
+    omega arith
 
-loop-again : tie.Need-loop-again Inv-loop μ-loop
-loop-again c = passing-more (c .before .before .before .before .before .before .before .before .before .before .before .before .loop .inv) (c .before .before .before .before .before .before .before .before .before .before .before .before .before .before .before .before .before .pre .1 .1) (item (c .before .before .before .before .before .before .before)) (c .before .before .before .before .before .before .read-op .ensures) (c .before .before .before .before .t .given .1) (⊎-elim (λ w. passing-put (c .before .before .before .before .before .before .before .before .before .before .before .before .loop .inv) (c .before .before .before .before .before .before .before .before .before .before .before .before .before .before .before .before .before .pre .1 .1) (item (c .before .before .before .before .before .before .before)) (c .before .before .before .before .before .before .read-op .ensures) (c .before .before .before .before .t .given .1) (w .0 .taken) (list-short (c .before .before .before .before .before .before .before .before .before .before .before .before .before .before .before .before .before)) _ (w .5 ∙ w .2 .ensures)) (λ w. w .1 ∙ passing-kept (c .before .before .before .before .before .before .before .before .before .before .before .before .loop .inv) (c .before .before .before .before .before .before .before .before .before .before .before .before .before .before .before .before .before .pre .1 .1) (item (c .before .before .before .before .before .before .before)) (c .before .before .before .before .before .before .read-op .ensures) (c .before .before .before .before .t .given .1) (w .0 .left)) (c .before .before .if1 .came)) (c .before .size-of .ensures .0) (c .sum .ensures)
+loop-again-2 : tie.Need-loop-again-2 Inv-loop μ-loop
+loop-again-2 c =
+    let x = c .before .before .before .before in
+    let o = x .before .before .before in
+    let l = o .before .before .before .before .before in
+    let s = l .before .before .before .before .before in
+    let g = x .before .before .read-op .ensures in
+    passing-more (l .loop .inv) (s .pre .1 .1) (item o) g (x .r .given .1)
+    (⊎-elim
+    (λ w. passing-put (l .loop .inv) (s .pre .1 .1) (item o) g (x .r .given .1) (w .0 .taken) (list-short s) _ (w .5 ∙ w .2 .ensures))
+    (λ w. w .1 ∙ passing-kept (l .loop .inv) (s .pre .1 .1) (item o) g (x .r .given .1) (w .0 .left))
+    (c .before .before .if1 .came))
+    (c .before .size-of .ensures .0)
+    (c .sum .ensures)
 
 pub pass-spec : {M : Type 1} → statement M
 pass-spec =
@@ -111,8 +153,11 @@ pass-spec =
     same-length-3
     returns-3
     enum-known-t
+    loop-less
+    loop-again
+    enum-known-r
     put-reading-requires
     size-of-requires
     sum-requires
-    loop-less
-    loop-again)
+    loop-less-2
+    loop-again-2)

@@ -1,9 +1,9 @@
--- `put_reading` meets its contract: the field of a number or a text, or nothing.
+-- `put_reading` meets its contract: the field of a number or of a text.
 use native.Mathlib.Omega.{arith}
 use mathlib.Core.Path.{ap, _∙_}
 use mathlib.Core.List.{[], _∷_}
 use lib.IntN.{ℤ}
-use lib.Seq.{paste, paste-zero}
+use lib.Seq.{paste}
 use Rattle.definition.specs.Values.{integer}
 use Rattle.definition.specs.Lists.{listOf}
 use Rattle.fetch.proofs.Numbers.{same-integer}
@@ -11,9 +11,6 @@ use Rattle.read.proofs.Sizes.{text-inside, room-for, field-put}
 use borrow.Author.Needs.{needs}
 use Rattle.read.proofs.pass.put_reading.Statement.{statement}
 use Rattle.read.proofs.pass.put_reading.Tie as tie
-
-enum-told : tie.Need-enum-told
-enum-told c = search needs
 
 enum-known-r : tie.Need-enum-known-r
 enum-known-r c = search needs
@@ -33,42 +30,37 @@ enum-known-r-3 c = search needs
 put-text-requires : tie.Need-put-text-requires
 put-text-requires c κs = let s = c .before .before .before .before .before .before in (omega (arith, room-for (s .args .at) (s .args .list .now) (c .before .before .r3 .given .1) (s .pre .0)), text-inside (s .args .«data» .now) (c .before .before .r3 .given .1) (s .pre .1))
 
-returns : tie.Need-returns
-returns c = let s = c .before .before .before .before in field-put (s .args .«data» .now) _ (s .args .list .now) (s .args .at) (c .enum-told .given .1) (paste-zero (s .args .list .now) (s .args .at) (listOf []))
-
 same-length : tie.Need-same-length
 same-length c = search needs
 
-returns-2 : tie.Need-returns-2
-returns-2 c = let s = c .before .before .before .before .before .before .before .before .before in field-put (s .args .«data» .now) _ (s .args .list .now) (s .args .at) (c .before .before .before .before .before .r .given .1) (c .before .before .put-integer .ensures ∙ ap (λ (z : ℤ). paste (s .args .list .now) (s .args .at) (listOf (integer z ∷ [])) 11) (same-integer (c .before .before .before .before .before .r .given .0 .0) (c .before .before .before .before .known-told .given .0 .1)))
+returns : tie.Need-returns
+returns c = let s = c .before .before .before .before .before .before .before .before .before in field-put (s .args .«data» .now) _ (s .args .list .now) (s .args .at) (c .before .before .before .before .before .r .given .1) (c .before .before .put-integer .ensures ∙ ap (λ (z : ℤ). paste (s .args .list .now) (s .args .at) (listOf (integer z ∷ [])) 11) (same-integer (c .before .before .before .before .before .r .given .0 .0) (c .before .before .before .before .known-told .given .0 .1)))
 
 same-length-2 : tie.Need-same-length-2
 same-length-2 c = search needs
 
-returns-3 : tie.Need-returns-3
-returns-3 c = let s = c .before .before .before .before .before .before .before .before .before in field-put (s .args .«data» .now) _ (s .args .list .now) (s .args .at) (c .before .before .before .before .before .r2 .given .1) (c .before .before .put-float .ensures)
+returns-2 : tie.Need-returns-2
+returns-2 c = let s = c .before .before .before .before .before .before .before .before .before in field-put (s .args .«data» .now) _ (s .args .list .now) (s .args .at) (c .before .before .before .before .before .r2 .given .1) (c .before .before .put-float .ensures)
 
 same-length-3 : tie.Need-same-length-3
 same-length-3 c = search needs
 
-returns-4 : tie.Need-returns-4
-returns-4 c = let s = c .before .before .before .before .before .before .before .before .before in field-put (s .args .«data» .now) _ (s .args .list .now) (s .args .at) (c .before .before .before .before .before .r3 .given .1) (c .before .before .put-text .ensures)
+returns-3 : tie.Need-returns-3
+returns-3 c = let s = c .before .before .before .before .before .before .before .before .before in field-put (s .args .«data» .now) _ (s .args .list .now) (s .args .at) (c .before .before .before .before .before .r3 .given .1) (c .before .before .put-text .ensures)
 
 pub put-reading-spec : {M : Type 1} → statement M
 put-reading-spec =
     tie.close
     (tie.spec
-    enum-told
     enum-known-r
     put-integer-requires
     enum-known-r-2
     put-float-requires
     enum-known-r-3
     put-text-requires
-    returns
     same-length
-    returns-2
+    returns
     same-length-2
-    returns-3
+    returns-2
     same-length-3
-    returns-4)
+    returns-3)

@@ -13,9 +13,6 @@ enum-told c = search needs
 enum-told-2 : tie.Need-enum-told-2
 enum-told-2 c = search needs
 
-enum-told-3 : tie.Need-enum-told-3
-enum-told-3 c = search needs
-
 enum-known-r : tie.Need-enum-known-r
 enum-known-r c = search needs
 
@@ -29,10 +26,7 @@ returns-2 : tie.Need-returns-2
 returns-2 c = search needs
 
 returns-3 : tie.Need-returns-3
-returns-3 c = search needs
-
-returns-4 : tie.Need-returns-4
-returns-4 c = (ap sizeOf (sym (c .before .r .given .1)), omega (arith, text-short (c .before .r .given .1) (c .before .before .before .pre)))
+returns-3 c = (ap sizeOf (sym (c .before .r .given .1)), omega (arith, text-short (c .before .r .given .1) (c .before .before .before .pre)))
 
 pub size-of-spec : {M : Type 1} → statement M
 size-of-spec =
@@ -40,10 +34,8 @@ size-of-spec =
     (tie.spec
     enum-told
     enum-told-2
-    enum-told-3
     enum-known-r
     add-result
     returns
     returns-2
-    returns-3
-    returns-4)
+    returns-3)
