@@ -6,10 +6,6 @@ pub enum Kind {
     SmallSigned,
     // B H
     SmallUnsigned,
-    // i l
-    Signed,
-    // I L
-    Unsigned,
     // j
     LuaInteger,
     // J
@@ -20,6 +16,10 @@ pub enum Kind {
     Single,
     // d n
     Double,
+    // i l
+    Signed,
+    // I L
+    Unsigned,
 }
 
 // What a byte of a format means.

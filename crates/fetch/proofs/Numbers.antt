@@ -95,34 +95,34 @@ Alike j k = (o : Bool) (n : ℕ) (s : List ℕ) → decode o (Field.Number j n) 
 
 -- the tags of b h i l j, and of B H I L J T
 abbrev signeds : List ℕ
-signeds = 0 ∷ 2 ∷ 4 ∷ []
+signeds = 0 ∷ 2 ∷ 7 ∷ []
 
 abbrev unsigneds : List ℕ
-unsigneds = 1 ∷ 3 ∷ 5 ∷ 6 ∷ []
+unsigneds = 1 ∷ 3 ∷ 4 ∷ 8 ∷ []
 
 pub signed-kind : (k : Kind) → KindOf signeds k → Alike Signed k
 unfolding decode
 signed-kind SmallSigned h = λ o n s. refl
 signed-kind SmallUnsigned h = absurd (miss signeds 1 tt h)
-signed-kind Signed h = λ o n s. refl
-signed-kind Unsigned h = absurd (miss signeds 3 tt h)
 signed-kind LuaInteger h = λ o n s. refl
-signed-kind LuaUnsigned h = absurd (miss signeds 5 tt h)
-signed-kind Size h = absurd (miss signeds 6 tt h)
-signed-kind Single h = absurd (miss signeds 7 tt h)
-signed-kind Double h = absurd (miss signeds 8 tt h)
+signed-kind LuaUnsigned h = absurd (miss signeds 3 tt h)
+signed-kind Size h = absurd (miss signeds 4 tt h)
+signed-kind Single h = absurd (miss signeds 5 tt h)
+signed-kind Double h = absurd (miss signeds 6 tt h)
+signed-kind Signed h = λ o n s. refl
+signed-kind Unsigned h = absurd (miss signeds 8 tt h)
 
 pub unsigned-kind : (k : Kind) → KindOf unsigneds k → Alike Unsigned k
 unfolding decode
 unsigned-kind SmallSigned h = absurd (miss unsigneds 0 tt h)
 unsigned-kind SmallUnsigned h = λ o n s. refl
-unsigned-kind Signed h = absurd (miss unsigneds 2 tt h)
-unsigned-kind Unsigned h = λ o n s. refl
-unsigned-kind LuaInteger h = absurd (miss unsigneds 4 tt h)
+unsigned-kind LuaInteger h = absurd (miss unsigneds 2 tt h)
 unsigned-kind LuaUnsigned h = λ o n s. refl
 unsigned-kind Size h = λ o n s. refl
-unsigned-kind Single h = absurd (miss unsigneds 7 tt h)
-unsigned-kind Double h = absurd (miss unsigneds 8 tt h)
+unsigned-kind Single h = absurd (miss unsigneds 5 tt h)
+unsigned-kind Double h = absurd (miss unsigneds 6 tt h)
+unsigned-kind Signed h = absurd (miss unsigneds 7 tt h)
+unsigned-kind Unsigned h = λ o n s. refl
 
 module _ (o : Bool) (n at : ℕ) (d : List ℕ) (k j : Kind) (r : Decoded) where
   -- what one kind reads, another reads that is read alike

@@ -81,8 +81,8 @@ pub fn number(data: &[u8], at: usize, big: bool, kind: Kind, size: u64) -> Decod
         return Decoded::Refused(17);
     }
     match kind {
-        Kind::SmallSigned | Kind::Signed | Kind::LuaInteger => signed(data, at, big, size),
-        Kind::SmallUnsigned | Kind::Unsigned | Kind::LuaUnsigned | Kind::Size => unsigned(
+        Kind::SmallSigned | Kind::LuaInteger | Kind::Signed => signed(data, at, big, size),
+        Kind::SmallUnsigned | Kind::LuaUnsigned | Kind::Size | Kind::Unsigned => unsigned(
             data,
             at,
             big,
