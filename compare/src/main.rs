@@ -35,7 +35,7 @@ compare COMMAND [NAME=NUMBER].. [PLACE]    (in brackets: what a number is if it 
   read        seed [1], cases [6000000]
   properties  seed [1], cases [1000000]: ours alone
   record      DIRECTORY: writes the original's answers as measure.bin, write.bin and read.bin
-  bench       instructions by call under valgrind, beside the original and Lua 5.4 where it is installed";
+  bench       a folder for the tables and the plots: instructions and time by call, beside the original and Lua";
 
 /// What a command is given.
 struct Arguments {
@@ -55,7 +55,8 @@ fn main() -> ExitCode {
         "read" => (&[("seed", 1), ("cases", 6_000_000)], 0..=0),
         "properties" => (&[("seed", 1), ("cases", 1_000_000)], 0..=0),
         "record" => (&[], 1..=1),
-        "bench" | "bench-counted" => (&[], 0..=0),
+        "bench" => (&[], 0..=1),
+        "bench-counted" => (&[], 0..=0),
         _ => return usage(&format!("no such command: {command}")),
     };
     match given(rest, numbers) {
@@ -97,8 +98,11 @@ fn run(command: &str, arguments: &Arguments) -> ExitCode {
         ("read", _) => read::run(number("seed"), number("cases")),
         ("properties", _) => properties::run(number("seed"), number("cases")).finish(),
         ("record", Some(directory)) => record::run(directory),
-        ("bench-counted", _) => bench::counted(),
-        _ => bench::run(),
+        ("bench-counted", _) => {
+            bench::counted();
+            ExitCode::SUCCESS
+        }
+        (_, folder) => bench::run(folder.as_deref().map(Path::new)),
     }
 }
 
