@@ -6,6 +6,7 @@
 
 use crate::items::{Item, Numeral, Settings, items};
 use crate::original::{Original, Outcome};
+use crate::report::{self, Named};
 use crate::value::{LONGEST_TEXT, Value, decode};
 
 #[derive(Clone, Copy, Debug, PartialEq, Eq)]
@@ -19,7 +20,6 @@ pub enum Clause {
     Departure5,
     Refused20,
     Refused21,
-    Refused22,
     StartAdmitted,
     NoItemRefused6,
     AtMostEightBytes,
@@ -27,8 +27,9 @@ pub enum Clause {
     AlignmentInsideData,
 }
 
-impl Clause {
-    pub const ALL: [(Clause, &str); 15] = [
+impl Named for Clause {
+    /// "nothing that 22 refuses" is not among them: such calls are made and held to 22 (`result_too_long`).
+    const ALL: &[(Clause, &str)] = &[
         (Clause::LittleEndianHost, "little-endian host"),
         (Clause::FormatBytesBelow128, "format bytes below 128"),
         (Clause::Departure1, "Departures 1: n and T align in writing"),
@@ -38,13 +39,16 @@ impl Clause {
         (Clause::Departure5, "Departures 5: X past the end, a long s length"),
         (Clause::Refused20, "nothing that 20 refuses"),
         (Clause::Refused21, "nothing that 21 refuses"),
-        (Clause::Refused22, "nothing that 22 refuses"),
         (Clause::StartAdmitted, "reading: a start that 16 admits"),
         (Clause::NoItemRefused6, "reading: no item that 6 refuses"),
         (Clause::AtMostEightBytes, "reading: i I l L s at most 8 bytes"),
         (Clause::OnlyAtLimitOne, "reading: n, T, s only at limit 1"),
         (Clause::AlignmentInsideData, "reading: X staying inside the data"),
     ];
+
+    fn place(self) -> usize {
+        self as usize
+    }
 }
 
 /// What the original does inside the domain against document 01.
@@ -56,29 +60,31 @@ pub enum Finding {
     CharsFilledFirst,
 }
 
-impl Finding {
-    pub const ALL: [(Finding, &str); 4] = [
+impl Named for Finding {
+    const ALL: &[(Finding, &str)] = &[
         (Finding::AlignmentSizeUnchecked, "unpack takes Xi0 and Xi17; document 01 says 3"),
         (Finding::CharsPastTwoTo64, "unpack panics at c where offset and numeral pass 2^64; document 01 says 17"),
         (Finding::LengthPastTwoTo64, "unpack panics at s where offset and length pass 2^64; document 01 says 17"),
         (Finding::CharsFilledFirst, "pack fills a huge c in memory before later checks; not run above the cap on c"),
     ];
 
+    fn place(self) -> usize {
+        self as usize
+    }
+}
+
+impl Finding {
     /// Ours answers a known finding's input as document 01 says: by this number, or where it is open by any.
-    pub fn admits(self, refusal: u64) -> bool {
+    pub fn admits(self, refusal: Option<u64>) -> bool {
         match self {
-            Finding::AlignmentSizeUnchecked => refusal == 3,
-            Finding::CharsPastTwoTo64 | Finding::LengthPastTwoTo64 => refusal == 17,
-            Finding::CharsFilledFirst => true,
+            Finding::AlignmentSizeUnchecked => refusal == Some(3),
+            Finding::CharsPastTwoTo64 | Finding::LengthPastTwoTo64 => refusal == Some(17),
+            Finding::CharsFilledFirst => refusal.is_some(),
         }
     }
 }
 
-pub enum Verdict {
-    Inside,
-    Excluded(Vec<Clause>),
-    Known(Finding),
-}
+pub type Verdict = report::Verdict<Clause, Finding>;
 
 #[derive(Clone, Copy, PartialEq, Eq)]
 enum Call {

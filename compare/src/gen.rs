@@ -1,6 +1,6 @@
 //! Random formats, values and data, from a small generator that gives the same for the same seed.
 
-use crate::items::{Item, Numeral, items};
+use crate::items::{Item, Numeral, Settings, items};
 use crate::value::{LONGEST_TEXT, Value};
 
 /// SplitMix64.
@@ -246,6 +246,70 @@ pub fn values(random: &mut Random, format: &[u8]) -> Vec<Value> {
         (0..random.among(1, 3)).for_each(|_| values.push(any_value(random)));
     }
     values
+}
+
+// ---- inputs that mean the same in Lua
+
+/// How seldom what Lua takes otherwise is left as it is.
+const SELDOM: u64 = 40;
+
+/// A format of which most items mean the same in Lua.
+pub fn like_lua(random: &mut Random, format: &[u8]) -> Vec<u8> {
+    let mut like = Vec::with_capacity(format.len());
+    let mut settings = Settings::START;
+    for item in &items(format) {
+        let text = &format[item.start..item.end];
+        if random.one_in(SELDOM) {
+            like.extend_from_slice(text);
+        } else {
+            item_like_lua(random, item, text, settings, &mut like);
+        }
+        settings = settings.after(item);
+    }
+    like
+}
+
+fn item_like_lua(random: &mut Random, item: &Item, text: &[u8], settings: Settings, like: &mut Vec<u8>) {
+    let aligned = item.prefix().is_some_and(|size| size.min(settings.limit) > 1);
+    match (item.option, item.aligned) {
+        (b'l' | b'L', _) => {
+            like.push(if item.option == b'l' { b'i' } else { b'I' });
+            like.extend_from_slice(&text[1..]);
+        }
+        (b'\t' | b'\n' | b'\r', _) => like.push(b' '),
+        (b's', _) if aligned && !random.one_in(3) => like.extend_from_slice(random.pick(&[&b"z"[..], b"s1"])),
+        (b'c', _) if !matches!(item.numeral, Numeral::Number(..1_000_000)) => {
+            like.extend_from_slice(format!("c{}", random.pick(&[9, 2_000_000, 2_147_483_600])).as_bytes());
+        }
+        (b'X', Some(next)) if NUMBERS.contains(&next) && next != b'l' && next != b'L' => {
+            like.extend_from_slice(if next == b'f' { b"Xf" } else { text });
+        }
+        (b'X', _) if item.natural().is_some() => like.extend_from_slice(random.pick(&[&b"Xi4"[..], b"XI8", b"Xd"])),
+        _ => like.extend_from_slice(text),
+    }
+}
+
+/// Makes most of the values for a format such that Lua takes them as document 01 does.
+pub fn values_like_lua(random: &mut Random, format: &[u8], values: &mut [Value]) {
+    let items = items(format);
+    for (item, value) in items.iter().filter(|item| item.has_value()).zip(values) {
+        if !random.one_in(SELDOM) {
+            value_like_lua(random, item, value);
+        }
+    }
+}
+
+fn value_like_lua(random: &mut Random, item: &Item, value: &mut Value) {
+    match (item.option, &*value) {
+        (b'j' | b'T', Value::Float(_)) => *value = Value::Integer(integer(random)),
+        (b'J', Value::Float(_)) => *value = Value::Integer(integer(random) & i64::MAX),
+        (b'b', Value::Integer(integer)) => *value = Value::Integer(i64::from(*integer as i8)),
+        (b'B', Value::Integer(integer)) => *value = Value::Integer(integer & 0xFF),
+        (b'h', Value::Integer(integer)) => *value = Value::Integer(i64::from(*integer as i16)),
+        (b'H', Value::Integer(integer)) => *value = Value::Integer(integer & 0xFFFF),
+        (b'I' | b'J', Value::Integer(integer @ ..0)) => *value = Value::Integer(integer & i64::MAX),
+        _ => {}
+    }
 }
 
 fn value_for(random: &mut Random, item: &Item) -> Value {

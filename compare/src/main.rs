@@ -1,16 +1,21 @@
 //! Holds our library against the original, pack.rs, and against itself.
 
 mod bench;
+mod beside;
 mod domain;
 mod r#gen;
 mod items;
+mod lua;
+mod lua_domain;
 mod measure;
 mod original;
 mod ours;
+mod page;
 mod properties;
 mod read;
 mod record;
 mod report;
+mod scale;
 mod value;
 mod write;
 
@@ -18,44 +23,86 @@ mod write;
 use original::{LuaValue, lua_vm};
 
 use std::collections::HashMap;
+use std::path::Path;
 use std::process::ExitCode;
 
 const USAGE: &str = "\
-compare COMMAND [NAME=NUMBER]..    (in brackets: what a number is if it isn't given)
-  measure     seed [1], cases [2000000], length [4]: every format up to length, then random ones
+compare COMMAND [NAME=NUMBER].. [PLACE]    (in brackets: what a number is if it isn't given)
+  all         seed [1], cases [1000000], length [4], cap [100000], module [0], and a page for the summary: all calls
+              beside the original and Lua; with module=1 the Lua module that LUA_CPATH leads to answers too
+  measure     seed [1], cases [2000000], length [4]: every short format, then random ones
   write       seed [1], cases [6000000], cap [100000]: the longest c that the original may fill
   read        seed [1], cases [6000000]
   properties  seed [1], cases [1000000]: ours alone
   record      FILE: writes the original's answers to a fixed list of calls
-  bench       instructions by call under valgrind, beside the original and Lua 5.4 where it is installed";
+  bench       a folder for the tables and the plots: instructions and time by call, beside the original and Lua";
+
+/// What a command is given.
+struct Arguments {
+    numbers: HashMap<&'static str, u64>,
+    /// A page or a folder.
+    place: Option<String>,
+}
 
 fn main() -> ExitCode {
     original::silence_panics();
     let arguments: Vec<String> = std::env::args().skip(1).collect();
     let Some((command, rest)) = arguments.split_first() else { return usage("a command is missing") };
-    let defaults: &[(&str, u64)] = match command.as_str() {
-        "measure" => &[("seed", 1), ("cases", 2_000_000), ("length", 4)],
-        "write" => &[("seed", 1), ("cases", 6_000_000), ("cap", 100_000)],
-        "read" => &[("seed", 1), ("cases", 6_000_000)],
-        "properties" => &[("seed", 1), ("cases", 1_000_000)],
-        "record" if rest.len() == 1 => return record::run(&rest[0]),
-        "bench" if rest.is_empty() => return bench::run(),
-        "bench-counted" if rest.is_empty() => return bench::counted(),
-        _ => return usage(&format!("no such command: {}", arguments.join(" "))),
+    let (numbers, places): (&[(&str, u64)], _) = match command.as_str() {
+        "all" => (&[("seed", 1), ("cases", 1_000_000), ("length", 4), ("cap", 100_000), ("module", 0)], 0..=1),
+        "measure" => (&[("seed", 1), ("cases", 2_000_000), ("length", 4)], 0..=0),
+        "write" => (&[("seed", 1), ("cases", 6_000_000), ("cap", 100_000)], 0..=0),
+        "read" => (&[("seed", 1), ("cases", 6_000_000)], 0..=0),
+        "properties" => (&[("seed", 1), ("cases", 1_000_000)], 0..=0),
+        "record" => (&[], 1..=1),
+        "bench" => (&[], 0..=1),
+        "bench-counted" => (&[], 0..=0),
+        _ => return usage(&format!("no such command: {command}")),
     };
+    match given(rest, numbers) {
+        Ok(arguments) if places.contains(&usize::from(arguments.place.is_some())) => run(command, &arguments),
+        Ok(_) => usage(&format!("{command} has a place too many or too few")),
+        Err(argument) => usage(&format!("{command} doesn't take {argument}")),
+    }
+}
+
+/// The numbers, with their defaults, and the place; or an argument that fits neither.
+fn given(arguments: &[String], defaults: &[(&'static str, u64)]) -> Result<Arguments, String> {
     let mut numbers: HashMap<&str, u64> = defaults.iter().copied().collect();
-    for argument in rest {
-        let given = argument.split_once('=').and_then(|(name, number)| Some((name, number.parse::<u64>().ok()?)));
-        match given.and_then(|(name, number)| Some((numbers.get_mut(name)?, number))) {
-            Some((place, number)) => *place = number,
-            None => return usage(&format!("{command} doesn't take {argument}")),
+    let mut place = None;
+    for argument in arguments {
+        let Some((name, number)) = argument.split_once('=') else {
+            if place.replace(argument.clone()).is_some() {
+                return Err(argument.clone());
+            }
+            continue;
+        };
+        match (numbers.get_mut(name), number.parse()) {
+            (Some(place), Ok(number)) => *place = number,
+            _ => return Err(argument.clone()),
         }
     }
-    match command.as_str() {
-        "measure" => measure::run(numbers["seed"], numbers["cases"], numbers["length"] as u32),
-        "write" => write::run(numbers["seed"], numbers["cases"], numbers["cap"]),
-        "read" => read::run(numbers["seed"], numbers["cases"]),
-        _ => properties::run(numbers["seed"], numbers["cases"]),
+    Ok(Arguments { numbers, place })
+}
+
+fn run(command: &str, arguments: &Arguments) -> ExitCode {
+    let number = |name: &str| arguments.numbers[name];
+    match (command, &arguments.place) {
+        ("all", page) => {
+            let length = number("length") as u32;
+            let numbers = scale::Numbers { seed: number("seed"), cases: number("cases"), length, cap: number("cap") };
+            scale::run(&numbers, page.as_deref().map(Path::new), number("module") != 0)
+        }
+        ("measure", _) => measure::run(number("seed"), number("cases"), number("length") as u32),
+        ("write", _) => write::run(number("seed"), number("cases"), number("cap")),
+        ("read", _) => read::run(number("seed"), number("cases")),
+        ("properties", _) => properties::run(number("seed"), number("cases")).finish(),
+        ("record", Some(directory)) => record::run(directory),
+        ("bench-counted", _) => {
+            bench::counted();
+            ExitCode::SUCCESS
+        }
+        (_, folder) => bench::run(folder.as_deref().map(Path::new)),
     }
 }
 

@@ -1,7 +1,10 @@
 //! Measuring: `string_packsize` against ours.
 
-use crate::domain::{self, Verdict};
+use crate::beside::{Compared, beside_original};
+use crate::domain;
 use crate::r#gen::{self, Random, Use};
+use crate::lua::Module;
+use crate::lua_domain::{self, Asked};
 use crate::original::{Original, Outcome};
 use crate::ours;
 use crate::report::{Case, Check, Tally, shorter};
@@ -12,7 +15,7 @@ use std::process::ExitCode;
 const ALPHABET: &[u8] = b"bBhHiIlLjJTfdnczsxX<>=!01389 \t\n\rq\x00\x0B\x7F\x80";
 
 #[derive(Clone)]
-struct Measured(Vec<u8>);
+pub struct Measured(Vec<u8>);
 
 impl Case for Measured {
     fn weight(&self) -> usize {
@@ -28,25 +31,48 @@ impl Case for Measured {
     }
 }
 
-/// Every format of up to `length` bytes over the alphabet, then `cases` random ones.
+/// Every short format, then `cases` random ones.
 pub fn run(seed: u64, cases: u64, length: u32) -> ExitCode {
     let mut original = Original::default();
-    let mut check = |case: &Measured| check(&mut original, &case.0);
-    let mut tally = Tally::new("measure", true);
-    let mut formats = (0..=length).flat_map(every_format);
-    let going = formats.all(|format| tally.examine(&Measured(format), &mut check));
+    let mut check = |case: &Measured| beside_original(case, &mut original, u64::MAX);
+    let mut tally = Tally::beside::<domain::Clause, domain::Finding>("measure", "the original");
     let mut random = Random::new(seed);
-    if going {
-        (0..cases).all(|_| tally.examine(&Measured(long_format(&mut random)), &mut check));
-    }
+    let drawn = (0..cases).map(|_| Measured(long_format(&mut random)));
+    every_format(length).chain(drawn).all(|case| tally.examine(&case, &mut check));
     tally.finish()
 }
 
-fn every_format(length: u32) -> impl Iterator<Item = Vec<u8>> {
-    let letters = ALPHABET.len() as u64;
-    (0..letters.pow(length)).map(move |number| {
-        (0..length).map(|place| ALPHABET[(number / letters.pow(place) % letters) as usize]).collect()
+/// Every format of up to two bytes, then every one of up to `length` bytes over the alphabet.
+pub fn every_format(length: u32) -> impl Iterator<Item = Measured> {
+    every_format_over(every_byte(), 2).chain(every_format_over(ALPHABET.to_vec(), length))
+}
+
+/// How many these are.
+pub fn format_count(length: u32) -> u64 {
+    let up_to = |letters: u64, length: u32| (0..=length).map(|length| letters.pow(length)).sum::<u64>();
+    up_to(256, 2) + up_to(ALPHABET.len() as u64, length)
+}
+
+fn every_byte() -> Vec<u8> {
+    (0..=255).collect()
+}
+
+fn every_format_over(alphabet: Vec<u8>, length: u32) -> impl Iterator<Item = Measured> {
+    let letters = alphabet.len() as u64;
+    let numbers = (0..=length).flat_map(move |length| (0..letters.pow(length)).map(move |number| (length, number)));
+    numbers.map(move |(length, number)| {
+        let letter = |place: u32| alphabet[(number / letters.pow(place) % letters) as usize];
+        Measured((0..length).map(letter).collect())
     })
+}
+
+/// A random format; every second one mostly means the same in Lua.
+pub fn drawn(random: &mut Random) -> Measured {
+    if random.one_in(2) {
+        return Measured(long_format(random));
+    }
+    let format = if random.one_in(2) { long_format(random) } else { r#gen::format(random, Use::Measuring) };
+    Measured(r#gen::like_lua(random, &format))
 }
 
 /// A format of which a c or two has a numeral at a limit, so that lengths around 2^63 come up.
@@ -74,15 +100,40 @@ fn limit_length(random: &mut Random) -> String {
     }
 }
 
-fn check(original: &mut Original, format: &[u8]) -> Check {
-    match domain::measuring(original, format) {
-        Verdict::Excluded(clauses) => return Check::Excluded(clauses),
-        Verdict::Known(finding) => return Check::Known(finding),
-        Verdict::Inside => {}
+impl Compared for Measured {
+    type Given = i64;
+
+    fn verdict(&self, original: &mut Original, _cap: u64) -> domain::Verdict {
+        domain::measuring(original, &self.0)
     }
-    match (original.packsize(format), ours::packsize(format)) {
-        (Outcome::Accepted(theirs), Ok(size)) if u64::try_from(theirs) == Ok(size) => Check::Accepted,
-        (Outcome::Refused, Err(1..=22)) => Check::Refused,
-        (theirs, size) => Check::Differs(format!("the original {theirs:?}, ours {size:?}{}", original.said())),
+
+    fn original(&self, original: &mut Original) -> Outcome<i64> {
+        original.packsize(&self.0)
+    }
+
+    fn asked(&self, _cap: u64) -> Asked<'_> {
+        lua_domain::measuring(&self.0)
+    }
+
+    fn against(&self, outcome: &Outcome<i64>, whose: &str, _cap: u64) -> Result<Check, String> {
+        match (outcome, ours::packsize(&self.0)) {
+            (Outcome::Accepted(theirs), Ok(size)) if u64::try_from(*theirs) == Ok(size) => {
+                Ok(Check::Accepted { short: false })
+            }
+            (Outcome::Refused, Err(1..=22)) => Ok(Check::Refused),
+            (theirs, size) => Err(format!("{whose} {theirs:?}, ours {size:?}")),
+        }
+    }
+
+    fn refusal(&self) -> Result<Option<u64>, String> {
+        Ok(ours::packsize(&self.0).err())
+    }
+
+    fn against_module(&self, module: &Module<i64>, _cap: u64) -> Result<(), String> {
+        match (module, ours::packsize(&self.0)) {
+            (Module::Accepted(theirs), Ok(size)) if u64::try_from(*theirs) == Ok(size) => Ok(()),
+            (Module::Refused(theirs), Err(number)) if *theirs == number => Ok(()),
+            (module, size) => Err(format!("the module {module}, ours {size:?}")),
+        }
     }
 }

@@ -7,7 +7,6 @@ use crate::ours::{self, Continued, START, State};
 use crate::report::{Case, Check, Tally, lend, untouched};
 use crate::value::{Bytes, LONGEST_TEXT, Value, Values, decode, encode, skip};
 use crate::write::Written;
-use std::process::ExitCode;
 
 /// A call of writing, and the seed of what else is drawn for it: padding, cuts, data, states.
 #[derive(Clone)]
@@ -44,9 +43,10 @@ struct Counts {
     short: u64,
 }
 
-pub fn run(seed: u64, cases: u64) -> ExitCode {
+/// Prints how often each property was looked at.
+pub fn run(seed: u64, cases: u64) -> Tally {
     let mut random = Random::new(seed);
-    let mut tally = Tally::new("properties", false);
+    let mut tally = Tally::alone("properties");
     let mut counts = Counts::default();
     let mut check = |case: &Property| check(case, &mut counts);
     (0..cases).all(|_| {
@@ -68,7 +68,7 @@ pub fn run(seed: u64, cases: u64) -> ExitCode {
     ] {
         println!("  {count:>9}  {name}");
     }
-    tally.finish()
+    tally
 }
 
 /// Formats here have no c above this that is accepted.
@@ -83,7 +83,7 @@ fn hold(condition: bool, why: impl FnOnce() -> String) -> Held {
 fn check(case: &Property, counts: &mut Counts) -> Check {
     let mut random = Random::new(case.draw);
     match every_property(&case.written, &mut random, counts) {
-        Ok(true) => Check::Accepted,
+        Ok(true) => Check::Accepted { short: false },
         Ok(false) => Check::Refused,
         Err(why) => Check::Differs(why),
     }

@@ -1,12 +1,15 @@
 //! Reading: `string_unpack` against ours, values and position.
 
+use crate::beside::{Compared, beside_original};
 use crate::domain::{self, Verdict};
 use crate::r#gen::{self, Random, Use};
 use crate::items::items;
+use crate::lua::Module;
+use crate::lua_domain::{self, Asked};
 use crate::original::{Original, Outcome};
 use crate::ours;
-use crate::report::{Case, Check, Tally, lend, shorter, untouched};
-use crate::value::{Bytes, Value, Values, decode};
+use crate::report::{Case, Check, Tally, lend, refusal_of, shorter, untouched};
+use crate::value::{Bytes, Value, Values, decode, encode};
 use crate::write::Written;
 use std::process::ExitCode;
 
@@ -60,9 +63,8 @@ pub fn run(seed: u64, cases: u64) -> ExitCode {
     let mut original = Original::default();
     let mut writer = Original::default();
     let mut random = Random::new(seed);
-    let mut tally = Tally::new("read", true);
-    let mut short = 0;
-    let mut check = |case: &Reading| check(&mut original, case, &mut short);
+    let mut tally = Tally::beside::<domain::Clause, domain::Finding>("read", "the original");
+    let mut check = |case: &Reading| beside_original(case, &mut original, u64::MAX);
     let mut done = 0;
     while done < cases {
         let drawn = some_readings(&mut random, &mut writer);
@@ -71,26 +73,35 @@ pub fn run(seed: u64, cases: u64) -> ExitCode {
             break;
         }
     }
-    tally.count_short_buffers(short);
     tally.finish()
 }
 
-/// A written record, whole, damaged or cut; or random data; or short data at every start.
+/// A few readings; every second time they mostly mean the same in Lua.
+pub fn drawn(random: &mut Random, writer: &mut Original) -> Vec<Reading> {
+    let like_lua = random.one_in(2);
+    readings(random, writer, like_lua)
+}
+
 pub fn some_readings(random: &mut Random, writer: &mut Original) -> Vec<Reading> {
+    readings(random, writer, false)
+}
+
+/// A written record, whole, damaged or cut; or random data; or short data at every start.
+fn readings(random: &mut Random, writer: &mut Original, like_lua: bool) -> Vec<Reading> {
     let spare = random.among(1, 40);
     let lacking = if random.one_in(2) { 1 } else { random.among(1, 40) };
     match random.below(60) {
         0..39 => {
-            let (format, data, start) = from_record(random, writer);
+            let (format, data, start) = from_record(random, writer, like_lua);
             vec![Reading { format, data, start, spare, lacking }]
         }
         39..58 => {
-            let format = r#gen::format(random, Use::Reading);
+            let format = some_format(random, like_lua);
             let (data, start) = from_nothing(random);
             vec![Reading { format, data, start, spare, lacking }]
         }
         _ => {
-            let format = r#gen::format(random, Use::Reading);
+            let format = some_format(random, like_lua);
             let length = random.among(0, 6);
             let data = r#gen::data(random, length);
             let end = length as i64;
@@ -101,11 +112,19 @@ pub fn some_readings(random: &mut Random, writer: &mut Original) -> Vec<Reading>
     }
 }
 
+fn some_format(random: &mut Random, like_lua: bool) -> Vec<u8> {
+    if !like_lua {
+        return r#gen::format(random, Use::Reading);
+    }
+    let format = r#gen::format(random, Use::Writing);
+    r#gen::like_lua(random, &format)
+}
+
 /// The longest c that a record is written with.
 const CAP: u64 = 100_000;
 
-fn from_record(random: &mut Random, writer: &mut Original) -> (Vec<u8>, Vec<u8>, i64) {
-    let case = Written::random(random, Use::Reading);
+fn from_record(random: &mut Random, writer: &mut Original, like_lua: bool) -> (Vec<u8>, Vec<u8>, i64) {
+    let case = if like_lua { Written::like_lua(random) } else { Written::random(random, Use::Reading) };
     let Some(record) = record_of(&case, writer) else { return (case.format, r#gen::data(random, 24), 1) };
     let before = if random.one_in(2) { 0 } else { random.among(0, 33) };
     let after = if random.one_in(2) { 0 } else { random.among(0, 20) };
@@ -163,51 +182,84 @@ fn from_nothing(random: &mut Random) -> (Vec<u8>, i64) {
     (data, start)
 }
 
-fn check(original: &mut Original, case: &Reading, short: &mut u64) -> Check {
-    let compared = match domain::reading(original, &case.format, &case.data, case.start) {
-        Verdict::Excluded(clauses) => return Check::Excluded(clauses),
-        Verdict::Known(finding) => return held_to(finding, case),
-        Verdict::Inside => match original.unpack(&case.format, &case.data, case.start) {
-            Outcome::Accepted((values, position)) => accepted(case, &values, position, short).map(|()| Check::Accepted),
-            Outcome::Refused => refused(case).map(|()| Check::Refused),
-            Outcome::Panicked => Err("the original panics".to_string()),
-        },
-    };
-    compared.unwrap_or_else(|why| Check::Differs(format!("{why}{}", original.said())))
+impl Compared for Reading {
+    type Given = (Vec<Value>, i64);
+
+    fn verdict(&self, original: &mut Original, _cap: u64) -> domain::Verdict {
+        domain::reading(original, &self.format, &self.data, self.start)
+    }
+
+    fn original(&self, original: &mut Original) -> Outcome<(Vec<Value>, i64)> {
+        original.unpack(&self.format, &self.data, self.start)
+    }
+
+    fn asked(&self, _cap: u64) -> Asked<'_> {
+        lua_domain::reading(&self.format, &self.data, self.start)
+    }
+
+    fn against(&self, outcome: &Outcome<(Vec<Value>, i64)>, whose: &str, _cap: u64) -> Result<Check, String> {
+        match outcome {
+            Outcome::Accepted((values, position)) => accepted(self, values, *position, whose),
+            Outcome::Refused => refused(self, whose),
+            Outcome::Panicked => Err(format!("{whose} panics")),
+        }
+    }
+
+    fn refusal(&self) -> Result<Option<u64>, String> {
+        let mut list = lend(self.spare);
+        let answer = ours::unpack(&self.format, &self.data, self.start, &mut list);
+        refusal_of(answer, &list)
+    }
+
+    fn against_module(&self, module: &Module<(Vec<Value>, i64)>, _cap: u64) -> Result<(), String> {
+        let room = match module {
+            Module::Accepted((values, _)) => values.iter().map(Value::field_length).sum(),
+            _ => most_room(self),
+        };
+        let mut list = lend(room);
+        let answer = ours::unpack(&self.format, &self.data, self.start, &mut list);
+        match (module, answer) {
+            (Module::Accepted((values, position)), Ok(answer))
+                if answer == (room as u64, *position as u64) && encode(values) == list =>
+            {
+                Ok(())
+            }
+            (Module::Refused(theirs), Err(number)) if *theirs == number => Ok(()),
+            (module, answer) => Err(format!("the module {module}, ours {answer:?}")),
+        }
+    }
 }
 
 /// Ours gives the same values and position with a buffer as long as the list and with a longer one, and 22 with a
 /// shorter one.
-fn accepted(case: &Reading, values: &[Value], position: i64, short: &mut u64) -> Result<(), String> {
+fn accepted(case: &Reading, values: &[Value], position: i64, whose: &str) -> Result<Check, String> {
     let length: usize = values.iter().map(Value::field_length).sum();
     for room in [length, length + case.spare] {
         let mut list = lend(room);
         let answer = ours::unpack(&case.format, &case.data, case.start, &mut list);
         if answer != Ok((length as u64, position as u64)) {
             let theirs = Values(values);
-            return Err(format!(
-                "room {room}: the original gives {theirs}, {length} bytes, to {position}, ours {answer:?}"
-            ));
+            return Err(format!("room {room}: {whose} gives {theirs}, {length} bytes, to {position}, ours {answer:?}"));
         }
         if !untouched(&list, length) {
             return Err(format!("room {room}: ours changed a byte behind the list"));
         }
-        same_values(&case.format, values, &list[..length])?;
+        same_values(&case.format, values, &list[..length], whose)?;
     }
     let room = length.saturating_sub(case.lacking);
-    if domain::result_too_long(length, room) {
-        *short += 1;
+    let short = domain::result_too_long(length, room);
+    if short {
         let mut list = lend(room);
         let answer = ours::unpack(&case.format, &case.data, case.start, &mut list);
         if answer != Err(22) || !untouched(&list, 0) {
             return Err(format!("room {room} of {length}: ours {answer:?}, or it changed the buffer"));
         }
     }
-    Ok(())
+    Ok(Check::Accepted { short })
 }
 
 /// "NaNs from f compare as NaN"; all else is the same to the bit.
-fn same_values(format: &[u8], theirs: &[Value], list: &[u8]) -> Result<(), String> {
+fn same_values(format: &[u8], theirs: &[Value], list: &[u8], whose: &str) -> Result<(), String> {
     let Some(ours) = decode(list) else { return Err(format!("ours gives a malformed list {}", Bytes(list))) };
     let options = items(format).into_iter().filter(|item| item.has_value()).map(|item| item.option);
     let same = |((theirs, ours), option): ((&Value, &Value), u8)| {
@@ -216,30 +268,27 @@ fn same_values(format: &[u8], theirs: &[Value], list: &[u8]) -> Result<(), Strin
     if theirs.len() == ours.len() && theirs.iter().zip(&ours).zip(options).all(same) {
         return Ok(());
     }
-    Err(format!("the original gives {}, ours {}", Values(theirs), Values(&ours)))
+    Err(format!("{whose} gives {}, ours {}", Values(theirs), Values(&ours)))
 }
 
-/// Ours refuses too and changes nothing. The room suffices for any list of these data, so 22 is wrong.
-fn refused(case: &Reading) -> Result<(), String> {
+/// As much room as any list of these data needs.
+fn most_room(case: &Reading) -> usize {
     let values = items(&case.format).iter().filter(|item| item.has_value()).count();
+    values * (11 + case.data.len())
+}
+
+/// Ours refuses too and changes nothing. The room suffices, so 22 is wrong.
+fn refused(case: &Reading, whose: &str) -> Result<Check, String> {
     let mut answers = [Ok((0, 0)), Ok((0, 0))];
-    for (answer, room) in answers.iter_mut().zip([values * (11 + case.data.len()), 0]) {
+    for (answer, room) in answers.iter_mut().zip([most_room(case), 0]) {
         let mut list = lend(room);
         *answer = ours::unpack(&case.format, &case.data, case.start, &mut list);
         if !matches!(answer, Err(1..=21)) || !untouched(&list, 0) {
-            return Err(format!("room {room}: the original refuses, ours {answer:?}, or it changed the buffer"));
+            return Err(format!("room {room}: {whose} refuses, ours {answer:?}, or it changed the buffer"));
         }
     }
     if answers[0] != answers[1] {
         return Err(format!("ours refuses by {:?} with room and {:?} without", answers[0], answers[1]));
     }
-    Ok(())
-}
-
-fn held_to(finding: domain::Finding, case: &Reading) -> Check {
-    let mut list = lend(case.spare);
-    match ours::unpack(&case.format, &case.data, case.start, &mut list) {
-        Err(number @ 1..=22) if finding.admits(number) && untouched(&list, 0) => Check::Known(finding),
-        answer => Check::Differs(format!("a known finding ({finding:?}), and ours {answer:?}")),
-    }
+    Ok(Check::Refused)
 }

@@ -1,16 +1,45 @@
 //! Counts of a run, its progress, the smallest failing input, and the summary.
 
-use crate::domain::{Clause, Finding};
+use std::fmt::Write;
 use std::process::ExitCode;
 use std::time::{Duration, Instant};
 
-/// What came of one case.
+/// Clauses of a domain, or known findings, each with its name.
+pub trait Named: Copy + 'static {
+    const ALL: &'static [(Self, &'static str)];
+
+    /// Another number for each.
+    fn place(self) -> usize;
+
+    fn name(self) -> &'static str {
+        let found = Self::ALL.iter().find(|(named, _)| named.place() == self.place());
+        found.map_or("no name", |(_, name)| name)
+    }
+}
+
+/// Whether an input is compared. It is not where clauses put it outside the domain, nor at a known finding.
+pub enum Verdict<C, F> {
+    Inside,
+    Excluded(Vec<C>),
+    Known(F),
+}
+
+/// What came of one case. A clause or a finding is given by its place.
 pub enum Check {
-    Accepted,
+    /// `short`: a buffer that is too short was lent too, and held to 22.
+    Accepted {
+        short: bool,
+    },
     Refused,
-    Excluded(Vec<Clause>),
-    Known(Finding),
+    Excluded(Vec<usize>),
+    Known(usize),
     Differs(String),
+}
+
+impl Check {
+    pub fn excluded(clauses: &[impl Named]) -> Check {
+        Check::Excluded(clauses.iter().map(|clause| clause.place()).collect())
+    }
 }
 
 /// An input that can be made smaller.
@@ -20,20 +49,40 @@ pub trait Case: Clone {
     fn show(&self) -> String;
 }
 
+/// How often something with a name came up.
+#[derive(Clone)]
+pub struct Count {
+    pub name: &'static str,
+    place: usize,
+    pub count: u64,
+}
+
+fn counts<N: Named>() -> Vec<Count> {
+    N::ALL.iter().map(|(named, name)| Count { name, place: named.place(), count: 0 }).collect()
+}
+
+fn add(counts: &mut [Count], place: usize) {
+    if let Some(found) = counts.iter_mut().find(|count| count.place == place) {
+        found.count += 1;
+    }
+}
+
 pub struct Tally {
-    what: &'static str,
-    /// Against the original, so that a domain and known findings are counted.
-    differential: bool,
+    pub what: &'static str,
+    /// Whose answers ours are held against; empty where ours run alone.
+    pub beside: &'static str,
     started: Instant,
     printed: Instant,
-    cases: u64,
+    /// How long the run took, once it has ended.
+    took: Option<Duration>,
+    pub cases: u64,
     accepted: u64,
     refused: u64,
-    excluded: u64,
-    clauses: [u64; Clause::ALL.len()],
-    findings: [u64; Finding::ALL.len()],
+    pub excluded: u64,
+    pub clauses: Vec<Count>,
+    pub findings: Vec<Count>,
     short_buffers: u64,
-    differences: u64,
+    pub differences: u64,
     smallest: Option<(usize, String)>,
 }
 
@@ -41,40 +90,58 @@ pub struct Tally {
 const MOST_DIFFERENCES: u64 = 30;
 
 impl Tally {
-    pub fn new(what: &'static str, differential: bool) -> Tally {
+    /// Of ours alone.
+    pub fn alone(what: &'static str) -> Tally {
         Tally {
             what,
-            differential,
+            beside: "",
             started: Instant::now(),
             printed: Instant::now(),
+            took: None,
             cases: 0,
             accepted: 0,
             refused: 0,
             excluded: 0,
-            clauses: [0; Clause::ALL.len()],
-            findings: [0; Finding::ALL.len()],
+            clauses: vec![],
+            findings: vec![],
             short_buffers: 0,
             differences: 0,
             smallest: None,
         }
     }
 
-    /// Checks a case and counts it; makes it as small as it gets where it differs. False once there are too many.
+    /// Beside another, with the clauses of its domain and the known findings.
+    pub fn beside<C: Named, F: Named>(what: &'static str, beside: &'static str) -> Tally {
+        Tally { beside, clauses: counts::<C>(), findings: counts::<F>(), ..Tally::alone(what) }
+    }
+
+    /// Checks a case and counts it, and shows progress. False once there are too many differences.
     pub fn examine<C: Case>(&mut self, case: &C, check: &mut impl FnMut(&C) -> Check) -> bool {
+        let checked = check(case);
+        self.count(case, checked, check);
+        self.progress();
+        self.goes_on()
+    }
+
+    /// Counts a case. Where it differs it is made as small as it gets, by `check`.
+    pub fn count<C: Case>(&mut self, case: &C, checked: Check, check: &mut impl FnMut(&C) -> Check) {
         self.cases += 1;
-        match check(case) {
-            Check::Accepted => self.accepted += 1,
+        match checked {
+            Check::Accepted { short } => {
+                self.accepted += 1;
+                self.short_buffers += u64::from(short);
+            }
             Check::Refused => self.refused += 1,
             Check::Excluded(clauses) => {
                 self.excluded += 1;
-                for clause in clauses {
-                    self.clauses[clause as usize] += 1;
-                }
+                clauses.into_iter().for_each(|place| add(&mut self.clauses, place));
             }
-            Check::Known(finding) => self.findings[finding as usize] += 1,
+            Check::Known(place) => add(&mut self.findings, place),
             Check::Differs(why) => self.differs(case, why, check),
         }
-        self.progress();
+    }
+
+    pub fn goes_on(&self) -> bool {
         self.differences < MOST_DIFFERENCES
     }
 
@@ -87,11 +154,6 @@ impl Tally {
         }
     }
 
-    /// Calls with a buffer that is too short, which were held to 22.
-    pub fn count_short_buffers(&mut self, count: u64) {
-        self.short_buffers += count;
-    }
-
     fn progress(&mut self) {
         if self.cases.is_multiple_of(1024) && self.printed.elapsed() > Duration::from_secs(10) {
             self.printed = Instant::now();
@@ -100,31 +162,50 @@ impl Tally {
         }
     }
 
-    pub fn finish(self) -> ExitCode {
-        let compared = self.accepted + self.refused + self.differences;
-        println!("{}: {} cases in {} s", self.what, self.cases, self.started.elapsed().as_secs());
-        println!("  compared {compared}: {} accepted, {} refused", self.accepted, self.refused);
-        if self.differential {
-            self.print_domain();
-        }
-        println!("  differences {}", self.differences);
-        let Some((_, smallest)) = self.smallest else { return ExitCode::SUCCESS };
-        println!("smallest failing input:\n{smallest}");
-        ExitCode::FAILURE
+    /// The run has ended.
+    pub fn end(&mut self) {
+        self.took = Some(self.started.elapsed());
     }
 
-    fn print_domain(&self) {
-        println!("  outside the domain {}; by clause (an input can be outside by several):", self.excluded);
-        for (clause, name) in Clause::ALL {
-            let count = self.clauses[clause as usize];
-            match clause {
-                Clause::Refused22 => println!("    {:>9}  {name} (calls, held to 22 instead)", self.short_buffers),
-                _ => println!("    {count:>9}  {name}"),
-            }
+    pub fn compared(&self) -> u64 {
+        self.accepted + self.refused + self.differences
+    }
+
+    pub fn known(&self) -> u64 {
+        self.findings.iter().map(|finding| finding.count).sum()
+    }
+
+    pub fn finish(self) -> ExitCode {
+        print!("{}", self.text());
+        if self.differences == 0 { ExitCode::SUCCESS } else { ExitCode::FAILURE }
+    }
+
+    /// All counts, and the smallest failing input.
+    pub fn text(&self) -> String {
+        let beside = if self.beside.is_empty() { String::new() } else { format!(" beside {}", self.beside) };
+        let seconds = self.took.unwrap_or_else(|| self.started.elapsed()).as_secs();
+        let mut text = format!("{}{beside}: {} cases in {seconds} s\n", self.what, self.cases);
+        let _ = writeln!(text, "  compared {}: {} accepted, {} refused", self.compared(), self.accepted, self.refused);
+        if !self.clauses.is_empty() {
+            self.domain_text(&mut text);
         }
-        println!("  known findings {}:", self.findings.iter().sum::<u64>());
-        for (finding, name) in Finding::ALL {
-            println!("    {:>9}  {name}", self.findings[finding as usize]);
+        let _ = writeln!(text, "  differences {}", self.differences);
+        if let Some((_, smallest)) = &self.smallest {
+            let _ = writeln!(text, "smallest failing input:\n{smallest}");
+        }
+        text
+    }
+
+    fn domain_text(&self, text: &mut String) {
+        let _ = writeln!(text, "  calls with a buffer that is too short, held to 22: {}", self.short_buffers);
+        let _ =
+            writeln!(text, "  outside the domain {}; by clause (an input can be outside by several):", self.excluded);
+        for Count { name, count, .. } in &self.clauses {
+            let _ = writeln!(text, "    {count:>9}  {name}");
+        }
+        let _ = writeln!(text, "  known findings {}:", self.known());
+        for Count { name, count, .. } in &self.findings {
+            let _ = writeln!(text, "    {count:>9}  {name}");
         }
     }
 }
@@ -162,6 +243,19 @@ pub fn shorter(bytes: &[u8]) -> Vec<Vec<u8>> {
     all
 }
 
+/// A number with a comma before each group of three digits.
+pub fn grouped(number: u64) -> String {
+    let digits = number.to_string();
+    let mut text = String::new();
+    for (at, digit) in digits.char_indices() {
+        if at > 0 && (digits.len() - at).is_multiple_of(3) {
+            text.push(',');
+        }
+        text.push(digit);
+    }
+    text
+}
+
 // ---- lent buffers
 
 /// A buffer filled with a pattern, so that a changed byte shows.
@@ -176,4 +270,13 @@ fn pattern(at: usize) -> u8 {
 /// The buffer's bytes from `start` on are as they were lent.
 pub fn untouched(buffer: &[u8], start: usize) -> bool {
     buffer.iter().enumerate().skip(start).all(|(at, byte)| *byte == pattern(at))
+}
+
+/// The number of a refusal that left all of the buffer as it was lent, none where the call accepted.
+pub fn refusal_of<T>(answer: Result<T, u64>, buffer: &[u8]) -> Result<Option<u64>, String> {
+    match answer {
+        Ok(_) => Ok(None),
+        Err(number @ 1..=22) if untouched(buffer, 0) => Ok(Some(number)),
+        Err(number) => Err(format!("refusal {number}, or it changed the buffer")),
+    }
 }

@@ -1,11 +1,14 @@
 //! Writing: `string_pack` against ours, with every byte of the lent buffer.
 
-use crate::domain::{self, Verdict};
+use crate::beside::{Compared, beside_original};
+use crate::domain;
 use crate::r#gen::{self, Random, Use};
 use crate::items::items;
+use crate::lua::Module;
+use crate::lua_domain::{self, Asked};
 use crate::original::{Original, Outcome};
 use crate::ours;
-use crate::report::{Case, Check, Tally, lend, shorter, untouched};
+use crate::report::{Case, Check, Tally, lend, refusal_of, shorter, untouched};
 use crate::value::{Bytes, Value, Values, decode, encode};
 use std::process::ExitCode;
 
@@ -29,10 +32,36 @@ impl Written {
     pub fn random(random: &mut Random, purpose: Use) -> Written {
         let format = r#gen::format(random, purpose);
         let values = r#gen::values(random, &format);
-        let mut case = Written::new(format, values);
-        case.spare = random.among(1, 40);
-        case.lacking = if random.one_in(2) { 1 } else { random.among(1, 40) };
+        Written::in_some_room(random, format, values)
+    }
+
+    /// One that mostly means the same in Lua.
+    pub fn like_lua(random: &mut Random) -> Written {
+        let format = r#gen::format(random, Use::Writing);
+        let format = r#gen::like_lua(random, &format);
+        let mut values = r#gen::values(random, &format);
+        r#gen::values_like_lua(random, &format, &mut values);
+        Written::in_some_room(random, format, values)
+    }
+
+    fn in_some_room(random: &mut Random, format: Vec<u8>, values: Vec<Value>) -> Written {
+        let spare = random.among(1, 40);
+        let lacking = if random.one_in(2) { 1 } else { random.among(1, 40) };
+        Written { spare, lacking, ..Written::new(format, values) }
+    }
+
+    /// One whose list is seldom malformed.
+    fn damaged_at_times(random: &mut Random) -> Written {
+        let mut case = Written::random(random, Use::Writing);
+        if random.one_in(500) {
+            case.damage(random);
+        }
         case
+    }
+
+    /// Every second one mostly means the same in Lua.
+    pub fn drawn(random: &mut Random) -> Written {
+        if random.one_in(2) { Written::like_lua(random) } else { Written::damaged_at_times(random) }
     }
 
     fn damage(&mut self, random: &mut Random) {
@@ -105,83 +134,95 @@ pub fn run(seed: u64, cases: u64, cap: u64) -> ExitCode {
     println!("write: the original is not run where it would fill a c of more than {cap} bytes");
     let mut original = Original::default();
     let mut random = Random::new(seed);
-    let mut tally = Tally::new("write", true);
-    let mut short = 0;
-    let mut check = |case: &Written| check(&mut original, case, cap, &mut short);
-    for _ in 0..cases {
-        let mut case = Written::random(&mut random, Use::Writing);
-        if random.one_in(500) {
-            case.damage(&mut random);
-        }
-        if !tally.examine(&case, &mut check) {
-            break;
-        }
-    }
-    tally.count_short_buffers(short);
+    let mut tally = Tally::beside::<domain::Clause, domain::Finding>("write", "the original");
+    let mut check = |case: &Written| beside_original(case, &mut original, cap);
+    (0..cases).all(|_| tally.examine(&Written::damaged_at_times(&mut random), &mut check));
     tally.finish()
 }
 
-fn check(original: &mut Original, case: &Written, cap: u64, short: &mut u64) -> Check {
-    let compared = match domain::writing(original, &case.format, &case.list, &case.values, cap) {
-        Verdict::Excluded(clauses) => return Check::Excluded(clauses),
-        Verdict::Known(finding) => return held_to(finding, case),
-        Verdict::Inside => match original.pack(&case.format, &case.values) {
-            Outcome::Accepted(record) => accepted(case, &record, short).map(|()| Check::Accepted),
-            Outcome::Refused => refused(case, cap).map(|()| Check::Refused),
-            Outcome::Panicked => Err("the original panics".to_string()),
-        },
-    };
-    compared.unwrap_or_else(|why| Check::Differs(format!("{why}{}", original.said())))
+impl Compared for Written {
+    type Given = Vec<u8>;
+
+    fn verdict(&self, original: &mut Original, cap: u64) -> domain::Verdict {
+        domain::writing(original, &self.format, &self.list, &self.values, cap)
+    }
+
+    fn original(&self, original: &mut Original) -> Outcome<Vec<u8>> {
+        original.pack(&self.format, &self.values)
+    }
+
+    fn asked(&self, cap: u64) -> Asked<'_> {
+        lua_domain::writing(&self.format, &self.list, &self.values, cap)
+    }
+
+    fn against(&self, outcome: &Outcome<Vec<u8>>, whose: &str, cap: u64) -> Result<Check, String> {
+        match outcome {
+            Outcome::Accepted(record) => accepted(self, record, whose),
+            Outcome::Refused => refused(self, whose, cap),
+            Outcome::Panicked => Err(format!("{whose} panics")),
+        }
+    }
+
+    fn refusal(&self) -> Result<Option<u64>, String> {
+        let mut buffer = lend(self.spare);
+        let answer = ours::pack(&self.format, &self.list, &mut buffer);
+        refusal_of(answer, &buffer)
+    }
+
+    fn against_module(&self, module: &Module<Vec<u8>>, cap: u64) -> Result<(), String> {
+        let room = match module {
+            Module::Accepted(record) => record.len(),
+            _ => r#gen::room(&self.format, &self.values, cap),
+        };
+        let mut buffer = lend(room);
+        match (module, ours::pack(&self.format, &self.list, &mut buffer)) {
+            (Module::Accepted(record), Ok(length)) if *record == buffer && length == room as u64 => Ok(()),
+            (Module::Refused(theirs), Err(number)) if *theirs == number => Ok(()),
+            (module, answer) => Err(format!("the module {module}, ours {answer:?}")),
+        }
+    }
 }
 
 /// Ours writes the record into a buffer as long and into a longer one, and gives 22 for a shorter one.
-fn accepted(case: &Written, record: &[u8], short: &mut u64) -> Result<(), String> {
+fn accepted(case: &Written, record: &[u8], whose: &str) -> Result<Check, String> {
     for room in [record.len(), record.len() + case.spare] {
         let mut buffer = lend(room);
         let answer = ours::pack(&case.format, &case.list, &mut buffer);
         if answer != Ok(record.len() as u64) {
-            return Err(format!("room {room}: the original accepts {} bytes, ours {answer:?}", record.len()));
+            return Err(format!("room {room}: {whose} accepts {} bytes, ours {answer:?}", record.len()));
         }
         if buffer[..record.len()] != *record {
             let (theirs, ours) = (Bytes(record), Bytes(&buffer[..record.len()]));
-            return Err(format!("room {room}: the original writes {theirs}, ours {ours}"));
+            return Err(format!("room {room}: {whose} writes {theirs}, ours {ours}"));
         }
         if !untouched(&buffer, record.len()) {
             return Err(format!("room {room}: ours changed a byte behind the record"));
         }
     }
     let room = record.len().saturating_sub(case.lacking);
-    if domain::result_too_long(record.len(), room) {
-        *short += 1;
+    let short = domain::result_too_long(record.len(), room);
+    if short {
         let mut buffer = lend(room);
         let answer = ours::pack(&case.format, &case.list, &mut buffer);
         if answer != Err(22) || !untouched(&buffer, 0) {
             return Err(format!("room {room} of {}: ours {answer:?}, or it changed the buffer", record.len()));
         }
     }
-    Ok(())
+    Ok(Check::Accepted { short })
 }
 
 /// Ours refuses too, by the same number whatever the room, and changes nothing. The room suffices, so 22 is wrong.
-fn refused(case: &Written, cap: u64) -> Result<(), String> {
+fn refused(case: &Written, whose: &str, cap: u64) -> Result<Check, String> {
     let mut answers = [Ok(0), Ok(0)];
     for (answer, room) in answers.iter_mut().zip([r#gen::room(&case.format, &case.values, cap), 0]) {
         let mut buffer = lend(room);
         *answer = ours::pack(&case.format, &case.list, &mut buffer);
         if !matches!(answer, Err(1..=21)) || !untouched(&buffer, 0) {
-            return Err(format!("room {room}: the original refuses, ours {answer:?}, or it changed the buffer"));
+            return Err(format!("room {room}: {whose} refuses, ours {answer:?}, or it changed the buffer"));
         }
     }
     if answers[0] != answers[1] {
         return Err(format!("ours refuses by {:?} with room and {:?} without", answers[0], answers[1]));
     }
-    Ok(())
-}
-
-fn held_to(finding: domain::Finding, case: &Written) -> Check {
-    let mut buffer = lend(case.spare);
-    match ours::pack(&case.format, &case.list, &mut buffer) {
-        Err(number @ 1..=22) if finding.admits(number) && untouched(&buffer, 0) => Check::Known(finding),
-        answer => Check::Differs(format!("a known finding ({finding:?}), and ours {answer:?}")),
-    }
+    Ok(Check::Refused)
 }

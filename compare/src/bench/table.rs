@@ -1,0 +1,92 @@
+//! The costs as tables of a page.
+
+use super::time::{LEAST, SAMPLES};
+use super::workloads::{COUNTS, Goal, Kind};
+use super::{Costs, Report, Row};
+use crate::page;
+use crate::report::grouped;
+use std::fmt::Write;
+
+/// All tables, each under a line that says what it holds.
+pub fn tables(report: &Report) -> String {
+    let mut text = format!("{}, {}, `compare/run bench docs`.\n", page::today(), report.version);
+    instructions(&mut text, &report.goals);
+    times(&mut text, &report.goals);
+    growth(&mut text, &report.growth);
+    text
+}
+
+fn instructions(text: &mut String, rows: &[Row]) {
+    let _ = write!(
+        text,
+        "\nInstructions per call; a ratio in bold misses its goal:\n\n\
+         | call and input | original | ours | ratio | goal | Lua 5.4 |\n|---|---|---|---|---|---|\n"
+    );
+    for row in rows {
+        let goal = match row.workload.goal {
+            Some(Goal::Instructions(goal)) => Some(goal),
+            _ => None,
+        };
+        line(text, row, &row.instructions, goal, |count| grouped(count.round() as u64));
+    }
+}
+
+fn times(text: &mut String, rows: &[Row]) {
+    let _ = write!(
+        text,
+        "\nTime per call, the least of {SAMPLES} samples, each of as many calls as take {LEAST} µs of processor time:\n\n\
+         | call and input | original | ours | ratio | goal | Lua 5.4 |\n|---|---|---|---|---|---|\n"
+    );
+    for row in rows {
+        let goal = match row.workload.goal {
+            Some(Goal::Time(goal)) => Some(goal),
+            _ => None,
+        };
+        line(text, row, &row.nanoseconds, goal, duration);
+    }
+}
+
+fn line(text: &mut String, row: &Row, costs: &Costs, goal: Option<f64>, shown: impl Fn(f64) -> String) {
+    let missed = goal.is_some_and(|goal| costs.ratio() > goal);
+    let mark = if missed { "**" } else { "" };
+    let goal = goal.map_or(String::new(), |goal| format!("{goal:?}"));
+    let [original, ours, lua] = [costs.original, costs.ours, costs.lua].map(shown);
+    let (kind, name) = (row.workload.kind.name(), &row.workload.name);
+    let ratio = costs.ratio();
+    let _ = writeln!(text, "| {kind} {name} | {original} | {ours} | {mark}{ratio:.2}{mark} | {goal} | {lua} |");
+}
+
+/// For each kind of call, a row for each count of items.
+fn growth(text: &mut String, rows: &[Row]) {
+    let _ = write!(
+        text,
+        "\nHow cost grows with the number of mixed items:\n\n\
+         | call | items | original | ours | Lua 5.4 | time: original | ours | Lua 5.4 |\n|---|---|---|---|---|---|---|---|\n"
+    );
+    for (kind, rows) in Kind::ALL.iter().zip(rows.chunks(COUNTS.len())) {
+        for (items, row) in COUNTS.iter().zip(rows) {
+            let counts = [row.instructions.original, row.instructions.ours, row.instructions.lua];
+            let counts = counts.map(|count| grouped(count.round() as u64)).join(" | ");
+            let times = [row.nanoseconds.original, row.nanoseconds.ours, row.nanoseconds.lua].map(duration).join(" | ");
+            let _ = writeln!(text, "| {} | {} | {counts} | {times} |", kind.name(), grouped(*items as u64));
+        }
+    }
+}
+
+/// Three digits or so, with a unit.
+fn duration(nanoseconds: f64) -> String {
+    match nanoseconds {
+        ..1e3 => format!("{nanoseconds:.0} ns"),
+        1e3..1e4 => format!("{:.2} µs", nanoseconds / 1e3),
+        1e4..1e6 => format!("{:.1} µs", nanoseconds / 1e3),
+        _ => format!("{:.2} ms", nanoseconds / 1e6),
+    }
+}
+
+/// Prints what the original's count has of the stand-ins.
+pub fn stand_ins(report: &Report) {
+    println!("Instructions of the original that are the stand-ins':");
+    for (name, count) in &report.stand_ins {
+        println!("{count:>8.1}  {name}");
+    }
+}
