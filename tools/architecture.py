@@ -36,7 +36,7 @@ text { fill: #f0f6fc }
 # class, left, top, width, height, name, lines
 BOXES = [
     ("definition", 20, 60, 146, 496, "definition", [
-        "specs/: document 01,", "a file for each part,", "and the claims", "",
+        "specs/: what each call", "gives, a file for each", "part, and the claims", "",
         "src/: the types that", "specs and code share", "",
         "proofs/: proofs of the", "claims, and laws that", "the code's proofs cite", "", "",
         "Each contract to the", "right says that the", "answer and the lent", "bytes are what a",

@@ -62,7 +62,7 @@ pub fn ask_lua<C: Compared>(case: &C, lua: &mut Lua, cap: u64) -> Check {
     }
 }
 
-/// Ours answers a known finding's input as document 01 says.
+/// Ours answers a known finding's input as docs/FORMAT.md says.
 fn held<C: Compared>(case: &C, finding: impl Named, admits: impl Fn(Option<u64>) -> bool) -> Result<Check, String> {
     match case.refusal()? {
         refusal if admits(refusal) => Ok(Check::Known(finding.place())),

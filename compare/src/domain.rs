@@ -1,4 +1,4 @@
-//! The domain of the differential runs: one function for each clause of document 01, and the known findings.
+//! The domain of the differential runs: a function for each of its clauses, and the known findings.
 //!
 //! A clause about an item counts only where the original comes to that item: where it accepts the format up to there,
 //! with the same values or data. That run also gives the item's offset. So nothing of ours decides what is compared.
@@ -32,11 +32,11 @@ impl Named for Clause {
     const ALL: &[(Clause, &str)] = &[
         (Clause::LittleEndianHost, "little-endian host"),
         (Clause::FormatBytesBelow128, "format bytes below 128"),
-        (Clause::Departure1, "Departures 1: n and T align in writing"),
-        (Clause::Departure2, "Departures 2: measuring, and X everywhere, give 6"),
-        (Clause::Departure3, "Departures 3: c numerals above 2^63-1"),
-        (Clause::Departure4, "Departures 4: X with a numeral of 2^64 or more"),
-        (Clause::Departure5, "Departures 5: X past the end, a long s length"),
+        (Clause::Departure1, "difference 1: n and T align in writing"),
+        (Clause::Departure2, "difference 2: measuring, and X everywhere, give 6"),
+        (Clause::Departure3, "difference 3: c numerals above 2^63-1"),
+        (Clause::Departure4, "difference 4: X with a numeral of 2^64 or more"),
+        (Clause::Departure5, "difference 5: X past the end, a long s length"),
         (Clause::Refused20, "nothing that 20 refuses"),
         (Clause::Refused21, "nothing that 21 refuses"),
         (Clause::StartAdmitted, "reading: a start that 16 admits"),
@@ -51,7 +51,7 @@ impl Named for Clause {
     }
 }
 
-/// What the original does inside the domain against document 01.
+/// What the original does otherwise inside the domain.
 #[derive(Clone, Copy, Debug, PartialEq, Eq)]
 pub enum Finding {
     AlignmentSizeUnchecked,
@@ -62,9 +62,9 @@ pub enum Finding {
 
 impl Named for Finding {
     const ALL: &[(Finding, &str)] = &[
-        (Finding::AlignmentSizeUnchecked, "unpack takes Xi0 and Xi17; document 01 says 3"),
-        (Finding::CharsPastTwoTo64, "unpack panics at c where offset and numeral pass 2^64; document 01 says 17"),
-        (Finding::LengthPastTwoTo64, "unpack panics at s where offset and length pass 2^64; document 01 says 17"),
+        (Finding::AlignmentSizeUnchecked, "unpack takes Xi0 and Xi17; here 3"),
+        (Finding::CharsPastTwoTo64, "unpack panics at c where offset and numeral pass 2^64; here 17"),
+        (Finding::LengthPastTwoTo64, "unpack panics at s where offset and length pass 2^64; here 17"),
         (Finding::CharsFilledFirst, "pack fills a huge c in memory before later checks; not run above the cap on c"),
     ];
 
@@ -74,7 +74,7 @@ impl Named for Finding {
 }
 
 impl Finding {
-    /// Ours answers a known finding's input as document 01 says: by this number, or where it is open by any.
+    /// Ours answers a known finding's input as docs/FORMAT.md says: by this number, or where it is open by any.
     pub fn admits(self, refusal: Option<u64>) -> bool {
         match self {
             Finding::AlignmentSizeUnchecked => refusal == Some(3),
@@ -113,7 +113,7 @@ fn byte_above_127(format: &[u8]) -> bool {
     !format.is_ascii()
 }
 
-// ---- "nothing under Departures"
+// ---- the intended differences, 1 to 5 of docs/DIFFERENCES.md
 
 /// "1. n and T align in writing; in `string_pack` they don't."
 fn departure_1(call: Call, place: &Place, offset: u64) -> bool {

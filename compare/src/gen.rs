@@ -289,7 +289,7 @@ fn item_like_lua(random: &mut Random, item: &Item, text: &[u8], settings: Settin
     }
 }
 
-/// Makes most of the values for a format such that Lua takes them as document 01 does.
+/// Makes most of the values for a format such that Lua takes them as docs/FORMAT.md says.
 pub fn values_like_lua(random: &mut Random, format: &[u8], values: &mut [Value]) {
     let items = items(format);
     for (item, value) in items.iter().filter(|item| item.has_value()).zip(values) {

@@ -1,4 +1,4 @@
-//! Where real Lua means the same as document 01: a function for each way in which they differ, and what was found beyond.
+//! Where real Lua means the same as docs/FORMAT.md: a function for each way in which they differ, and what was found beyond.
 //!
 //! As in domain.rs, a clause about an item counts only where Lua comes to that item: where it accepts the format's front
 //! before it, with the same values or data, which Lua itself is asked. The first item that a clause, or a finding, is
@@ -61,8 +61,8 @@ pub enum Finding {
 
 impl Named for Finding {
     const ALL: &[(Finding, &str)] = &[
-        (Finding::ZeroEndsFormat, "a zero byte ends the format in Lua; document 01 says 1"),
-        (Finding::SizeAbove31Bits, "packsize refuses above 2^31-1; document 01 says 9 above 2^63-1 only"),
+        (Finding::ZeroEndsFormat, "a zero byte ends the format in Lua; here 1"),
+        (Finding::SizeAbove31Bits, "packsize refuses above 2^31-1; here 9 above 2^63-1 only"),
         (Finding::CharsFilledFirst, "pack fills a huge c in memory before later checks; not run above the cap on c"),
     ];
 
@@ -72,7 +72,7 @@ impl Named for Finding {
 }
 
 impl Finding {
-    /// Ours answers a known finding's input as document 01 says: by this number, or where it is open by any. A size
+    /// Ours answers a known finding's input as docs/FORMAT.md says: by this number, or where it is open by any. A size
     /// above 2^31-1 is left to the comparison with the original.
     pub fn admits(self, refusal: Option<u64>) -> bool {
         match self {

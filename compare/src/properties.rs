@@ -1,4 +1,4 @@
-//! Random tests of ours alone, by what document 01 says of its calls together.
+//! Random tests of ours alone, by what docs/FORMAT.md says of its calls together.
 
 use crate::r#gen::{self, Random, Use};
 use crate::items::{Item, Numeral, Settings, is_blank, items};

@@ -1,4 +1,4 @@
-//! Values, and the value list of document 01.
+//! Values, and the value list.
 
 use std::fmt;
 

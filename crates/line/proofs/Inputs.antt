@@ -1,19 +1,19 @@
--- The first line of an input, and how much of an input counts.
-use Prim.Native.Nat.{ℕ, zero, suc, _+_, _≤_, _<_}
+-- The first line of an input, and when what follows it counts no more.
+use Prim.Native.Nat.{ℕ, suc, _+_, _≤_, _<_}
 use mathlib.Core.Path.{_≡_, refl, sym, ap, _∙_}
 use mathlib.Core.Bool.{Bool, true, false, cond}
 use mathlib.Core.List.{List, [], _∷_, _++_, append-nil, append-assoc}
 use native.Mathlib.Numerals.{add-one}
 use native.Mathlib.Omega.{arith}
-use lib.Dec.{leb, eqb}
+use lib.Dec.{ltb, eqb}
 use lib.ListN.{length, take, drop, getD, length-take, drop-of-length-le}
-use lib.Seq.{take-all, take-suc, drop-cons}
-use borrow.Author.Tests.{le-leb, lt-leb, leb-true, leb-false, ne-eqb}
-use Rattle.definition.specs.Answers.{refused, accepted, _>>_, require}
+use lib.Seq.{take-suc, drop-cons}
+use borrow.Author.Tests.{le-leb, lt-leb, lt-ltb, le-ltb, ltb-true, ne-eqb}
+use Rattle.definition.specs.Answers.{refused, accepted}
 use Rattle.definition.specs.Bytes.{bytes}
 use Rattle.definition.specs.Measuring.{measure}
 use Rattle.definition.specs.Program.{firstLine, line, printed}
-use Rattle.line.specs.Lines.{answerTo, numberLine}
+use Rattle.line.specs.Lines.{settled, Stands, answerTo, numberLine}
 
 -- ---- a place before which no line feed stands
 module _ (s : List ℕ) (i : ℕ) (inv : take i s ++ firstLine (drop i s) ≡ firstLine s) where
@@ -42,40 +42,64 @@ module _ (s : List ℕ) (i : ℕ) (inv : take i s ++ firstLine (drop i s) ≡ fi
       ∙ ap (λ (l : List ℕ). take i s ++ l) (sym (ap firstLine (here h) ∙ line-cons (getD s i 0) (drop (suc i) s) n))
       ∙ inv)
 
+length-line : (s : List ℕ) (n : ℕ) → take n s ≡ firstLine s → n ≤ length s → length (firstLine s) ≡ n
+length-line s n e h = ap length (sym e) ∙ length-take n s ∙ omega arith
+
 -- ---- the answer
 pub answer-long : (s : List ℕ) (n : ℕ) → take n s ≡ firstLine s → n ≤ length s → 4096 < n → refused 22 ≡ answerTo s
-answer-long s n e h l =
-    let k : length (firstLine s) ≡ n = ap length (sym e) ∙ length-take n s ∙ omega arith in
-    rw (k, lt-leb n 4096 l)
+answer-long s n e h l = rw (length-line s n e h, lt-leb n 4096 l)
 
 pub answer-short : (s : List ℕ) (n : ℕ) → take n s ≡ firstLine s → n ≤ length s → n ≤ 4096 → measure (take n s) ≡ answerTo s
-answer-short s n e h l =
-    let k : length (firstLine s) ≡ n = ap length (sym e) ∙ length-take n s ∙ omega arith in
-    rw (k, le-leb n 4096 l, e)
+answer-short s n e h l = rw (length-line s n e h, le-leb n 4096 l, e)
 
--- ---- "over 4,096 bytes: 22": only the first 4,097 bytes of an input count
-line-take : (k : ℕ) (s : List ℕ) → firstLine (take k s) ≡ take k (firstLine s)
+-- ---- "up to a line feed or the end (over 4,096 bytes: 22)": when what follows an input cannot change its answer
+-- a line that is complete stays as it is
+line-complete : (s t : List ℕ) → length (firstLine s) < length s → firstLine (s ++ t) ≡ firstLine s
 unfolding firstLine
-line-take zero s = refl
-line-take (suc k) [] = refl
-line-take (suc k) (b ∷ s) = go (eqb b 10) (line-take k s)
+line-complete [] t h = absurd (omega arith)
+line-complete (b ∷ s) t h = go (eqb b 10) (line-complete s t) h
   where
-    go : (t : Bool) → firstLine (take k s) ≡ take k (firstLine s) → cond t [] (b ∷ firstLine (take k s)) ≡ take (suc k) (cond t [] (b ∷ firstLine s))
-    go true e = refl
-    go false e = ap (λ (l : List ℕ). b ∷ l) e
+    go : (q : Bool) → (length (firstLine s) < length s → firstLine (s ++ t) ≡ firstLine s) → length (cond q [] (b ∷ firstLine s)) < suc (length s) → cond q [] (b ∷ firstLine (s ++ t)) ≡ cond q [] (b ∷ firstLine s)
+    go true ih h = refl
+    go false ih h = ap (λ (l : List ℕ). b ∷ l) (ih (omega arith))
 
-cut : (l : List ℕ) → (require (leb (length (take 4097 l)) 4096) 22 >> measure (take 4097 l)) ≡ (require (leb (length l) 4096) 22 >> measure l)
-cut l = go (leb (length l) 4096) refl
+-- and none becomes shorter
+line-grows : (s t : List ℕ) → length (firstLine s) ≤ length (firstLine (s ++ t))
+unfolding firstLine
+line-grows [] t = omega arith
+line-grows (b ∷ s) t = go (eqb b 10) (line-grows s t)
   where
-    go : (t : Bool) → leb (length l) 4096 ≡ t → (require (leb (length (take 4097 l)) 4096) 22 >> measure (take 4097 l)) ≡ (require (leb (length l) 4096) 22 >> measure l)
-    go true q = rw (take-all 4097 l (omega (arith, leb-true (length l) 4096 q)))
-    go false q =
-        let h = leb-false (length l) 4096 q in
-        rw (lt-leb (length (take 4097 l)) 4096 (rw length-take (omega arith)), q)
+    go : (q : Bool) → length (firstLine s) ≤ length (firstLine (s ++ t)) → length (cond q [] (b ∷ firstLine s)) ≤ length (cond q [] (b ∷ firstLine (s ++ t)))
+    go true ih = omega arith
+    go false ih = omega arith
 
-pub printed-front : (s : List ℕ) → printed (take 4097 s) ≡ printed s
+printed-long : (s : List ℕ) → 4096 < length (firstLine s) → printed s ≡ line (refused 22)
 unfolding printed
-printed-front s = rw (line-take 4097 s) (ap line (cut (firstLine s)))
+printed-long s h = rw (lt-leb (length (firstLine s)) 4096 h)
+
+printed-line : (s t : List ℕ) → firstLine s ≡ firstLine t → printed s ≡ printed t
+unfolding printed
+printed-line s t e = rw e
+
+stands : (s : List ℕ) → settled s ≡ true → Stands s
+stands s q t = go (ltb 4096 (length (firstLine s))) refl q
+  where
+    go : (b : Bool) → ltb 4096 (length (firstLine s)) ≡ b → cond b true (ltb (length (firstLine s)) (length s)) ≡ true → printed (s ++ t) ≡ printed s
+    go true long _ =
+        let h = ltb-true 4096 (length (firstLine s)) long in
+        printed-long (s ++ t) (omega (arith, line-grows s t)) ∙ sym (printed-long s h)
+    go false _ complete = printed-line (s ++ t) s (line-complete s t (ltb-true (length (firstLine s)) (length s) complete))
+
+-- the two tests of is_settled, at the length n of the first line
+module _ (s : List ℕ) (n : ℕ) (e : take n s ≡ firstLine s) (h : n ≤ length s) where
+  told : (r : Bool) → r ≡ settled s → (r ≡ settled s) × (r ≡ true → Stands s)
+  told r q = (q, λ t. stands s (sym q ∙ t))
+
+  pub settled-long : 4096 < n → (ltb 4096 n ≡ settled s) × (ltb 4096 n ≡ true → Stands s)
+  settled-long l = told (ltb 4096 n) (rw (length-line s n e h, lt-ltb 4096 n l))
+
+  pub settled-short : n ≤ 4096 → (ltb n (length s) ≡ settled s) × (ltb n (length s) ≡ true → Stands s)
+  settled-short l = told (ltb n (length s)) (rw (length-line s n e h, le-ltb 4096 n l))
 
 -- ---- what is printed
 pub printed-refused : (s : List ℕ) (k n : ℕ) → answerTo s ≡ refused k → n ≡ k → printed s ≡ numberLine (bytes "refused ") n

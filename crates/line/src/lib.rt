@@ -3,12 +3,13 @@ use measure::Measured;
 use measure::string_packsize;
 ghost use mathlib.Core.Path.{_≡_};
 ghost use Prim.Native.Nat.{_+_, _≤_, _<_};
+ghost use mathlib.Core.Bool.{true};
 ghost use mathlib.Core.List.{_++_};
 ghost use lib.ListN.{length, take, drop};
 ghost use lib.Seq.{paste};
 ghost use Rattle.definition.specs.Program.{firstLine, decimal, printed};
 ghost use Rattle.measure.specs.Measured.{measuredOf};
-ghost use Rattle.line.specs.Lines.{answerTo, numberLine};
+ghost use Rattle.line.specs.Lines.{settled, Stands, answerTo, numberLine};
 
 // The greatest length of a format in the input.
 const MAX_FORMAT: usize = 4096;
@@ -26,6 +27,15 @@ fn first_line(input: &[u8]) -> usize
         i += 1;
     }
     i
+}
+
+// Whether the answer to an input stands, whatever follows it: its first line is complete, or too long.
+pub fn is_settled(input: &[u8]) -> bool
+    ensures told { λ r. ⌜ r ≡ settled (now (input .entry)) ⌝ }
+    ensures stands { λ r. ⌜ (r ≡ true → Stands (now (input .entry))) ⌝ }
+{
+    let n = first_line(input);
+    MAX_FORMAT < n || n < input.len()
 }
 
 // The answer to an input.

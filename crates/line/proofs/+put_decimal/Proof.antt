@@ -48,16 +48,30 @@ put-decimal-digit-requires-2 : (t : ℕ) → put-decimal-lts.Need-digit-requires
 put-decimal-digit-requires-2 t c κs = omega arith
 
 put-decimal-slice-write-out-2 : (t : ℕ) → put-decimal-lts.Need-slice-write-out-2 (claims t) (put-decimal-at t) put-decimal.Post
-put-decimal-slice-write-out-2 t c = digit-inside (c .before .before .before .before .before .before .before .args .out .now) (c .before .before .before .before .before .before .before .args .at) (c .before .before .before .before .before .before .before .args .n) (c .before .before .before .put-decimal .result) (c .before .before .before .put-decimal .last .0) (c .before .before .before .before .before .before .before .fits .n .fits) (c .before .before .before .before .before .before .before .pre .1) (c .before .before .before .put-decimal .ensures .0) (c .before .before .before .put-decimal .kept .0)
+put-decimal-slice-write-out-2 t c =
+    let s = c .before .before .before .before .before .before .before in
+    let a = s .args in
+    let r = c .before .before .before .put-decimal in
+    digit-inside (a .out .now) (a .at) (a .n) (r .result) (r .last .0) (s .fits .n .fits) (s .pre .1) (r .ensures .0) (r .kept .0)
 
 put-decimal-add-result-2 : (t : ℕ) → put-decimal-lts.Need-add-result-2 (claims t) (put-decimal-at t) put-decimal.Post
-put-decimal-add-result-2 t c = omega (arith, digit-inside (c .before .before .before .before .before .before .before .args .out .now) (c .before .before .before .before .before .before .before .args .at) (c .before .before .before .before .before .before .before .args .n) (c .before .before .before .put-decimal .result) (c .before .before .before .put-decimal .last .0) (c .before .before .before .before .before .before .before .fits .n .fits) (c .before .before .before .before .before .before .before .pre .1) (c .before .before .before .put-decimal .ensures .0) (c .before .before .before .put-decimal .kept .0))
+put-decimal-add-result-2 t c =
+    let s = c .before .before .before .before .before .before .before in
+    let a = s .args in
+    let r = c .before .before .before .put-decimal in
+    omega (arith, digit-inside (a .out .now) (a .at) (a .n) (r .result) (r .last .0) (s .fits .n .fits) (s .pre .1) (r .ensures .0) (r .kept .0))
 
 put-decimal-same-length-2 : (t : ℕ) → put-decimal-lts.Need-same-length-2 (claims t) (put-decimal-at t) put-decimal.Post
 put-decimal-same-length-2 t c = simp length-set (c .before .before .before .put-decimal .kept .0)
 
 put-decimal-returns-2 : (t : ℕ) → put-decimal-lts.Need-returns-2 (claims t) (put-decimal-at t) put-decimal.Post
-put-decimal-returns-2 t c = last-digit (c .before .before .before .before .before .before .before .args .out .now) (c .before .before .before .before .before .before .before .args .at) (c .before .before .before .before .before .before .before .args .n) (c .before .before .before .put-decimal .result) (c .before .before .before .put-decimal .last .0) (c .before .before .before .before .before .before .before .fits .n .fits) (c .before .before .before .before .before .before .before .pre .1) (c .before .before .before .put-decimal .ensures .0) (c .digit2 .result) (c .before .before .before .before .before .if1 .left) (c .before .before .before .put-decimal .ensures .1) (c .digit2 .ensures)
+put-decimal-returns-2 t c =
+    let s = c .before .before .before .before .before .before .before in
+    let a = s .args in
+    let r = c .before .before .before .put-decimal in
+    let d = c .digit2 in
+    let large = c .before .before .before .before .before .if1 .left in
+    last-digit (a .out .now) (a .at) (a .n) (r .result) (r .last .0) (s .fits .n .fits) (s .pre .1) (r .ensures .0) (d .result) large (r .ensures .1) (d .ensures)
 
 pub +put-decimal-spec : {M : Type 1} → statement M
 +put-decimal-spec = close μ-put-decimal λ t. put-decimal-lts.spec (claims t)

@@ -11,7 +11,9 @@ first-line-requires : tie.Need-first-line-requires
 first-line-requires c κs = search needs
 
 returns : tie.Need-returns
-returns c = answer-long (now (c .before .before .before .args .input)) (c .before .first-line .result) (c .before .first-line .ensures .1) (c .before .first-line .ensures .0) (c .if1 .taken)
+returns c =
+    let f = c .before .first-line in
+    answer-long (now (c .before .before .before .args .input)) (f .result) (f .ensures .1) (f .ensures .0) (c .if1 .taken)
 
 slice-aggregate-string-packsize : tie.Need-slice-aggregate-string-packsize
 slice-aggregate-string-packsize c = sym (length-take-le (c .before .before .first-line .result) (c .before .before .before .before .args .input .now) (c .before .before .first-line .ensures .0))
@@ -20,7 +22,10 @@ string-packsize-requires : tie.Need-string-packsize-requires
 string-packsize-requires c κs = search needs
 
 returns-2 : tie.Need-returns-2
-returns-2 c = c .string-packsize .ensures ∙ answer-short (now (c .before .before .before .before .before .args .input)) (c .before .before .before .first-line .result) (c .before .before .before .first-line .ensures .1) (c .before .before .before .first-line .ensures .0) (c .before .before .if1 .left)
+returns-2 c =
+    let f = c .before .before .before .first-line in
+    let input = now (c .before .before .before .before .before .args .input) in
+    c .string-packsize .ensures ∙ answer-short input (f .result) (f .ensures .1) (f .ensures .0) (c .before .before .if1 .left)
 
 pub answer-spec : {M : Type 1} → statement M
 answer-spec =

@@ -1,9 +1,11 @@
 -- The label, the number and the line feed stand one behind the other.
+use Prim.Native.Nat.{_+_, _≤_}
 use mathlib.Core.Path.{_∙_}
 use mathlib.Core.List.{[], _∷_}
 use native.Mathlib.Omega.{arith}
 use borrow.Author.Needs.{needs}
 use denote.Ref.{now}
+use lib.ListN.{length}
 use Rattle.definition.specs.Program.{decimal}
 use Rattle.line.proofs.Buffers.{length-20, line-length, line-held}
 use Rattle.line.proofs.put_line.Statement.{statement}
@@ -19,20 +21,27 @@ slice-aggregate-put : tie.Need-slice-aggregate-put
 slice-aggregate-put c = search needs
 
 put-requires-2 : tie.Need-put-requires-2
-put-requires-2 c κs = omega (arith, c .before .before .before .before .put-decimal .ensures .0, c .before .before .before .before .put-decimal .kept .0, c .before .before .before .before .before .before .before .before .put .ensures .0, c .before .before .before .before .before .before .before .before .put .kept .0, length-20 (c .before .before .before .before .before .before .before .before .before .before .before .before .args .n), c .before .before .before .before .before .before .before .before .before .before .before .before .pre)
+put-requires-2 c κs =
+    let s = c .before .before .before .before .before .before .before .before .before .before .before .before in
+    let x = c .before .before .before .before .before .before .before .before .put in
+    let y = c .before .before .before .before .put-decimal in
+    omega (arith, y .ensures .0, y .kept .0, x .ensures .0, x .kept .0, length-20 (s .args .n), s .pre)
 
 same-length : tie.Need-same-length
 same-length c = c .before .before .put2 .kept .0 ∙ c .before .before .before .before .before .before .before .put-decimal .kept .0 ∙ c .before .before .before .before .before .before .before .before .before .before .before .put .kept .0
 
 returns : tie.Need-returns
 returns c =
-    let a = c .before .before .before .before .before .before .before .before .before .before .before .before .before .before .before .args in
-    let l = now (a .label) in
+    let s = c .before .before .before .before .before .before .before .before .before .before .before .before .before .before .before in
+    let o = now (s .args .out) in
+    let l = now (s .args .label) in
+    let d = decimal (s .args .n) in
     let x = c .before .before .before .before .before .before .before .before .before .before .before .put in
     let y = c .before .before .before .before .before .before .before .put-decimal in
-    let z = c .before .before .put2 in (
-      line-length l (decimal (a .n)) (10 ∷ []) (x .result) (y .result) (z .result) (x .ensures .0) (y .ensures .0) (z .ensures .0),
-      line-held (now (a .out)) l (decimal (a .n)) (10 ∷ []) (x .result) (y .result) (x .ensures .0) (y .ensures .0) (omega (arith, length-20 (a .n), c .before .before .before .before .before .before .before .before .before .before .before .before .before .before .before .pre)) (x .last .0) (y .last .0) (z .last .0) (x .ensures .1) (y .ensures .1) (z .ensures .1),
+    let z = c .before .before .put2 in
+    let fits : length l + length d ≤ length o = omega (arith, length-20 (s .args .n), s .pre) in (
+      line-length l d (10 ∷ []) (x .result) (y .result) (z .result) (x .ensures .0) (y .ensures .0) (z .ensures .0),
+      line-held o l d (10 ∷ []) (x .result) (y .result) (x .ensures .0) (y .ensures .0) fits (x .last .0) (y .last .0) (z .last .0) (x .ensures .1) (y .ensures .1) (z .ensures .1),
     )
 
 pub put-line-spec : {M : Type 1} → statement M
