@@ -198,6 +198,19 @@ fn results_need_no_more_memory_than_their_own() {
     }
 }
 
+/// Where a longer block can be had but not a copy of what is in it, the longer one is kept.
+#[test]
+fn results_need_no_memory_to_give_back() {
+    for (format, values, length) in records() {
+        let record = with_memory_of(length + length / 2, || pack(&format, &values));
+        assert_eq!(record.expect("a record").len(), length);
+    }
+    for (format, data, length) in readings() {
+        let list = with_memory_of(length + length / 2, || unpack(&format, &data, 1));
+        assert_eq!(list.expect("a list").0.as_bytes().len(), length);
+    }
+}
+
 #[test]
 fn parts_need_no_block_longer_than_the_record() {
     for (format, values, length) in records() {
