@@ -17,15 +17,16 @@
 //!
 //! # Refusals
 //!
-//! A call that is refused changes nothing and says why by an [`Error`]: a [`Refusal`] with its number, a sentence and who
-//! causes it, as in `docs/REFUSALS.md`, and, in writing, which value it is about.
+//! A call that is refused changes nothing and says why by an [`Error`]: a [`Refusal`] with its number, a sentence and
+//! who causes it, as in `docs/REFUSALS.md`, and, in writing, which value it is about.
 //!
 //! # Memory
 //!
-//! [`pack`], [`unpack`] and [`Writer::write`] give results that take as much memory as they need, and use more while they
-//! run. Where the memory for a result can't be had, they are refused with [`Refusal::ResultTooLong`] and the process goes
-//! on. A short format can ask for a long record: `c2000000000` asks for two billion bytes. Where formats are not trusted,
-//! use [`pack_into`] or [`Writer::write_into`] with a buffer as long as the longest record that you accept. They allocate
+//! [`pack`], [`unpack`] and [`Writer::write`] give results that take as much memory as they need, and use more while
+//! they run. Where the memory for a result can't be had, they are refused with [`Refusal::ResultTooLong`] and the
+//! process goes on. (A [`ValueList`] that is built grows as a `Vec` does, which ends the process there.) A short format
+//! can ask for a long record: `c2000000000` asks for two billion bytes. Where formats are not trusted, use
+//! [`pack_into`] or [`Writer::write_into`] with a buffer as long as the longest record that you accept. They allocate
 //! nothing. [`packsize`] says the length of a record beforehand, but not where the format has `z` or `s`, whose length
 //! depends on the values: `c2000000000z` is [`Refusal::NoFixedSize`].
 //!
@@ -73,8 +74,8 @@ pub fn packsize(format: impl AsRef<[u8]>) -> Result<u64, Error> {
 ///
 /// # Errors
 ///
-/// The format's own: [`UnknownOption`](Refusal::UnknownOption) to [`LengthTooLarge`](Refusal::LengthTooLarge). Those of a
-/// value, which they name: [`NoValueLeft`](Refusal::NoValueLeft) to [`TextDoesNotFit`](Refusal::TextDoesNotFit). And
+/// The format's own: [`UnknownOption`](Refusal::UnknownOption) to [`LengthTooLarge`](Refusal::LengthTooLarge). Those of
+/// a value, which they name: [`NoValueLeft`](Refusal::NoValueLeft) to [`TextDoesNotFit`](Refusal::TextDoesNotFit). And
 /// [`ResultTooLong`](Refusal::ResultTooLong) where no memory for the record can be had.
 ///
 /// ```
@@ -96,8 +97,8 @@ pub fn pack(format: impl AsRef<[u8]>, values: &Values) -> Result<Vec<u8>, Error>
 ///
 /// # Errors
 ///
-/// Those of [`pack`]; [`ResultTooLong`](Refusal::ResultTooLong) where the buffer is shorter than the record. They change
-/// no byte of the buffer.
+/// Those of [`pack`]; [`ResultTooLong`](Refusal::ResultTooLong) where the buffer is shorter than the record. They
+/// change no byte of the buffer.
 ///
 /// ```
 /// use digribbon::{Refusal, ValueList};
@@ -147,8 +148,8 @@ pub fn unpack(format: impl AsRef<[u8]>, data: &[u8], start: i64) -> Result<(Valu
 ///
 /// # Errors
 ///
-/// Those of [`unpack`]; [`ResultTooLong`](Refusal::ResultTooLong) where the buffer is shorter than the list. They change
-/// no byte of the buffer.
+/// Those of [`unpack`]; [`ResultTooLong`](Refusal::ResultTooLong) where the buffer is shorter than the list. They
+/// change no byte of the buffer.
 ///
 /// ```
 /// use digribbon::{Refusal, Value};

@@ -117,8 +117,8 @@ impl Writer {
     ///
     /// # Errors
     ///
-    /// Those of [`pack`](crate::pack), and [`Malformed`](crate::Refusal::Malformed) for a state that is none. They leave
-    /// the writer and `record` as they were. A value's position counts from the first of `values`.
+    /// Those of [`pack`](crate::pack), and [`Malformed`](crate::Refusal::Malformed) for a state that is none. They
+    /// leave the writer and `record` as they were. A value's position counts from the first of `values`.
     ///
     /// ```
     /// use digribbon::{Refusal, State, ValueList, Writer};
@@ -141,13 +141,13 @@ impl Writer {
         Ok(self.go_on(&answer, values))
     }
 
-    /// [`write`](Writer::write) into a buffer, to its front, with nothing allocated. What lies behind the part's bytes is
-    /// left as it was.
+    /// [`write`](Writer::write) into a buffer, to its front, with nothing allocated. What lies behind the part's bytes
+    /// is left as it was.
     ///
     /// # Errors
     ///
-    /// Those of [`write`](Writer::write), and [`ResultTooLong`](crate::Refusal::ResultTooLong) where the buffer is shorter
-    /// than the part. They leave the writer and the buffer as they were.
+    /// Those of [`write`](Writer::write), and [`ResultTooLong`](crate::Refusal::ResultTooLong) where the buffer is
+    /// shorter than the part. They leave the writer and the buffer as they were.
     ///
     /// ```
     /// use digribbon::{Refusal, ValueList, Writer};

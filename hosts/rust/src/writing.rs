@@ -44,8 +44,8 @@ impl<'a> Writing<'a> {
         }
     }
 
-    /// The position of the value that is refused: with the values before it alone, none is left for its option; with it,
-    /// the refusal comes, whatever follows.
+    /// The position of the value that is refused: with the values before it alone, none is left for its option; with
+    /// it, the refusal comes, whatever follows.
     fn refused_value(self) -> usize {
         let (mut before, mut position) = (0, Values::trusted(self.list).len());
         while before + 1 < position {
@@ -60,10 +60,12 @@ impl<'a> Writing<'a> {
     }
 }
 
-/// The first fields of a list, as many as the format can take: an option has at least a byte, and takes at most one.
+/// The first fields of a list, as many as the format can take: an option is at least a byte, and takes at most one
+/// field.
 ///
-/// The call walks over the whole list that it is lent. So what a part of a record costs depends on the part's format,
-/// and not on the values that are left for later parts. A list of some bytes for each byte of the format is lent whole.
+/// A call walks over the whole list that it is lent. With the list cut here, what a part of a record costs depends on
+/// the part's format and not on how many values are left for later parts. A list of a few bytes for each byte of the
+/// format is lent whole, which costs no more.
 fn takeable<'a>(format: &[u8], list: &'a [u8]) -> &'a [u8] {
     if list.len() <= format.len().saturating_mul(16) {
         return list;
