@@ -1,7 +1,6 @@
-//! Finds the original's pack.rs and our archive, and hands both to the compiler.
+//! Finds the original's pack.rs and hands it to the compiler. Our archive comes with the Rust crate (../hosts/rust).
 //!
 //! DIGRIBBON_ORIGINAL: the folder that holds `crates/luars/..`; else ../../shared/docs/src.
-//! DIGRIBBON_ARCHIVE: our static archive; else ../target/staticlib/libdigribbon.a.
 //! A relative path counts from this folder.
 
 use std::path::{Path, PathBuf};
@@ -11,7 +10,6 @@ const PACK: &str = "crates/luars/src/stdlib/string/pack.rs";
 
 fn main() {
     let original = place("DIGRIBBON_ORIGINAL", "../../shared/docs/src").join(PACK);
-    let archive = place("DIGRIBBON_ARCHIVE", "../target/staticlib/libdigribbon.a");
     println!("cargo::rerun-if-changed=build.rs");
     if !original.is_file() {
         println!(
@@ -20,19 +18,8 @@ fn main() {
         );
         return;
     }
-    if !archive.is_file() {
-        println!(
-            "cargo::error=Our archive is missing: there is no file {}. Run `compare/archive`, or set DIGRIBBON_ARCHIVE.",
-            archive.display()
-        );
-        return;
-    }
     let original = original.canonicalize().expect("a file has a path");
-    let archive = archive.canonicalize().expect("a file has a path");
     println!("cargo::rerun-if-changed={}", original.display());
-    println!("cargo::rerun-if-changed={}", archive.display());
-    println!("cargo::rustc-link-arg-bins={}", archive.display());
-    println!("cargo::rustc-link-arg-bins=-lm");
 
     let module = format!("#[path = {original:?}]\npub mod pack;\n");
     let out = PathBuf::from(env::var_os("OUT_DIR").expect("cargo sets OUT_DIR"));

@@ -2,6 +2,7 @@
 
 mod count;
 mod lua;
+mod parts;
 mod plot;
 mod table;
 mod time;
@@ -45,6 +46,8 @@ struct Report {
     /// The workloads with goals, then those that grow.
     goals: Vec<Row>,
     growth: Vec<Row>,
+    /// Instructions for each number of parts, by each way to write them.
+    parts: Vec<[f64; 3]>,
     stand_ins: Vec<(&'static str, f64)>,
     version: String,
 }
@@ -53,9 +56,21 @@ struct Report {
 const PAGE: &str = "COST.md";
 const PART: &str = "tables";
 
+/// The page where a folder has none.
+const NEW_PAGE: &str = "\
+# Cost
+
+![Cost per call, as a part of what the original costs](cost.svg)
+
+![How cost grows with the number of items](growth.svg)
+
+<!-- tables -->
+<!-- end of tables -->
+";
+
 /// Prints the tables; with a folder, puts them into its page, and the plots beside it.
 pub fn run(folder: Option<&Path>) -> ExitCode {
-    let ready = folder.map_or(Ok(()), |folder| page::check(&folder.join(PAGE), PART));
+    let ready = folder.map_or(Ok(()), prepare);
     match ready.and_then(|()| report()).and_then(|report| publish(&report, folder)) {
         Ok(()) => ExitCode::SUCCESS,
         Err(why) => {
@@ -65,23 +80,33 @@ pub fn run(folder: Option<&Path>) -> ExitCode {
     }
 }
 
+/// Sees to it that a folder has a page with the part: before the long run.
+fn prepare(folder: &Path) -> Result<(), String> {
+    let page = folder.join(PAGE);
+    fs::create_dir_all(folder).map_err(|why| format!("{} can't be made: {why}", folder.display()))?;
+    if !page.exists() {
+        fs::write(&page, NEW_PAGE).map_err(|why| format!("{} can't be written: {why}", page.display()))?;
+    }
+    page::check(&page, PART)
+}
+
 fn report() -> Result<Report, String> {
     let (goals, growth) = (with_goals(), growing());
     if let Some(workload) = goals.iter().chain(&growth).find(|workload| !workload.agrees()) {
         return Err(format!("ours and the original answer differently: {}", Bytes(workload.format.as_bytes())));
     }
+    if let Some(parts) = parts::all().iter().find(|parts| !parts.agrees()) {
+        return Err(format!("{} parts give another record than the whole", parts.count));
+    }
     let version = Lua::version()?;
     let scratch = std::env::temp_dir().join(format!("digribbon-bench-{}", std::process::id()));
     fs::create_dir_all(&scratch).map_err(|why| format!("no folder for the counts can be made: {why}"))?;
-    let rows = rows(goals, growth, &scratch);
+    let report = measured(goals, growth, version, &scratch);
     let _ = fs::remove_dir_all(&scratch);
-    let (goals, growth, stand_ins) = rows?;
-    Ok(Report { goals, growth, stand_ins, version })
+    report
 }
 
-type Rows = (Vec<Row>, Vec<Row>, Vec<(&'static str, f64)>);
-
-fn rows(goals: Vec<Workload>, growth: Vec<Workload>, scratch: &Path) -> Result<Rows, String> {
+fn measured(goals: Vec<Workload>, growth: Vec<Workload>, version: String, scratch: &Path) -> Result<Report, String> {
     eprintln!("bench: counting the instructions of ours and of the original");
     let counts = count::counts(goals.iter().chain(&growth), scratch)?;
     let mut counted = counts.workloads.iter();
@@ -95,7 +120,7 @@ fn rows(goals: Vec<Workload>, growth: Vec<Workload>, scratch: &Path) -> Result<R
     };
     let goals = goals.into_iter().map(&mut row).collect::<Result<_, _>>()?;
     let growth = growth.into_iter().map(&mut row).collect::<Result<_, _>>()?;
-    Ok((goals, growth, counts.stand_ins))
+    Ok(Report { goals, growth, parts: counts.parts, stand_ins: counts.stand_ins, version })
 }
 
 fn publish(report: &Report, folder: Option<&Path>) -> Result<(), String> {

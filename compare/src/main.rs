@@ -26,16 +26,7 @@ use std::collections::HashMap;
 use std::path::Path;
 use std::process::ExitCode;
 
-const USAGE: &str = "\
-compare COMMAND [NAME=NUMBER].. [PLACE]    (in brackets: what a number is if it isn't given)
-  all         seed [1], cases [1000000], length [4], cap [100000], module [0], and a page for the summary: all calls
-              beside the original and Lua; with module=1 the Lua module that LUA_CPATH leads to answers too
-  measure     seed [1], cases [2000000], length [4]: every short format, then random ones
-  write       seed [1], cases [6000000], cap [100000]: the longest c that the original may fill
-  read        seed [1], cases [6000000]
-  properties  seed [1], cases [1000000]: ours alone
-  record      FILE: writes the original's answers to a fixed list of calls
-  bench       a folder for the tables and the plots: instructions and time by call, beside the original and Lua";
+const USAGE: &str = include_str!("../usage.txt");
 
 /// What a command is given.
 struct Arguments {
@@ -107,6 +98,6 @@ fn run(command: &str, arguments: &Arguments) -> ExitCode {
 }
 
 fn usage(why: &str) -> ExitCode {
-    eprintln!("compare: {why}\n{USAGE}");
+    eprint!("compare: {why}\n{USAGE}");
     ExitCode::from(2)
 }

@@ -10,6 +10,7 @@
 //!
 //! Callgrind counts `rep movsb` as an instruction for each byte, so the C library is told to copy by vectors.
 
+use super::parts::{self, Way};
 use super::workloads::{Workload, growing, with_goals};
 use crate::r#gen::Random;
 use crate::original::lua_vm::LuaState;
@@ -76,7 +77,8 @@ impl Heap {
     }
 }
 
-/// The counted program: two empty calls, then each workload by the original and by ours, then the stand-ins.
+/// The counted program: two empty calls, then each workload by the original and by ours, then records in parts, then the
+/// stand-ins.
 pub fn counted() {
     count(REPEATS, &mut (), |()| (), |()| ());
     count_ours(REPEATS, &mut || ());
@@ -91,6 +93,9 @@ pub fn counted() {
             count(repeats, state, |state| assert!(call(state).is_ok()), &mut reset);
         });
         count_ours(repeats, &mut workload.ours());
+    }
+    for parts in parts::all() {
+        Way::ALL.into_iter().for_each(|way| count_ours(REPEATS, &mut parts.written(way)));
     }
     STAND_INS.iter().for_each(|(_, stand_in)| count_stand_in(*stand_in));
 }
@@ -137,6 +142,8 @@ fn count_stand_in(stand_in: StandIn) {
 pub struct Counts {
     /// For each workload, of the original and of ours.
     pub workloads: Vec<[f64; 2]>,
+    /// For each number of parts, of each way to write them.
+    pub parts: Vec<[f64; 3]>,
     /// The stand-ins' parts by name, of one use.
     pub stand_ins: Vec<(&'static str, f64)>,
 }
@@ -147,10 +154,13 @@ pub fn counts<'a>(workloads: impl Iterator<Item = &'a Workload>, folder: &Path) 
     let mut next = || files.next().ok_or_else(|| "valgrind gave too few counts.".to_string());
     let mut per_call = |repeats: u64| next().map(|count| count as f64 / repeats as f64);
     let (empty, empty_ours) = (per_call(REPEATS)?, per_call(REPEATS)?);
-    let mut all = Counts { workloads: vec![], stand_ins: vec![] };
+    let mut all = Counts { workloads: vec![], parts: vec![], stand_ins: vec![] };
     for workload in workloads {
         let repeats = repeats(workload);
         all.workloads.push([per_call(repeats)? - empty, per_call(repeats)? - empty_ours]);
+    }
+    for _ in parts::COUNTS {
+        all.parts.push([per_call(REPEATS)?, per_call(REPEATS)?, per_call(REPEATS)?].map(|count| count - empty_ours));
     }
     for (name, _) in STAND_INS {
         all.stand_ins.push((name, (per_call(REPEATS)? - empty) / TIMES as f64));

@@ -1,5 +1,6 @@
 //! The costs as tables of a page.
 
+use super::parts::{self, Way};
 use super::time::{LEAST, SAMPLES};
 use super::workloads::{COUNTS, Goal, Kind};
 use super::{Costs, Report, Row};
@@ -13,6 +14,7 @@ pub fn tables(report: &Report) -> String {
     instructions(&mut text, &report.goals);
     times(&mut text, &report.goals);
     growth(&mut text, &report.growth);
+    in_parts(&mut text, &report.parts);
     text
 }
 
@@ -70,6 +72,20 @@ fn growth(text: &mut String, rows: &[Row]) {
             let times = [row.nanoseconds.original, row.nanoseconds.ours, row.nanoseconds.lua].map(duration).join(" | ");
             let _ = writeln!(text, "| {} | {} | {counts} | {times} |", kind.name(), grouped(*items as u64));
         }
+    }
+}
+
+/// A row for each number of parts.
+fn in_parts(text: &mut String, counts: &[[f64; 3]]) {
+    let items = grouped(parts::ITEMS as u64);
+    let ways = Way::ALL.map(Way::name).join(" | ");
+    let _ = write!(
+        text,
+        "\nInstructions to write a record of {items} mixed items in parts:\n\n| parts | {ways} |\n|---|---|---|---|\n"
+    );
+    for (count, costs) in parts::COUNTS.iter().zip(counts) {
+        let costs = costs.map(|cost| grouped(cost.round() as u64)).join(" | ");
+        let _ = writeln!(text, "| {} | {costs} |", grouped(*count as u64));
     }
 }
 

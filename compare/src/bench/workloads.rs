@@ -116,8 +116,14 @@ pub fn growing() -> Vec<Workload> {
     Kind::ALL.into_iter().flat_map(|kind| COUNTS.map(|count| of(kind, count))).collect()
 }
 
-/// Items of every kind, each a part of the format and its value; z and s are for writing and reading only.
+/// A format of mixed items, and their values.
 fn mixed(count: usize, open: bool) -> (String, Vec<Value>) {
+    let (items, values): (Vec<_>, Vec<_>) = mixed_items(count, open).into_iter().unzip();
+    (items.concat(), values.into_iter().flatten().collect())
+}
+
+/// Items of every kind, each a part of the format and its value; z and s are for writing and reading only.
+pub fn mixed_items(count: usize, open: bool) -> Vec<(&'static str, Option<Value>)> {
     let integer = Value::Integer;
     let cycle = [
         ("b", Some(integer(-5))),
@@ -141,8 +147,7 @@ fn mixed(count: usize, open: bool) -> (String, Vec<Value>) {
         ("c12", Some(Value::Text(b"profile".to_vec()))),
         ("Xi4", None),
     ];
-    let parts = || cycle.iter().cycle().take(count);
-    (parts().map(|(item, _)| *item).collect(), parts().filter_map(|(_, value)| value.clone()).collect())
+    cycle.into_iter().cycle().take(count).collect()
 }
 
 impl Workload {

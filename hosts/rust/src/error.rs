@@ -1,5 +1,6 @@
-//! Refusals: number, sentence and cause.
+//! Refusals: number, sentence, cause, and the value that one is about.
 
+use std::num::NonZero;
 use std::{error, fmt};
 
 /// Who causes a refusal.
@@ -28,38 +29,39 @@ impl fmt::Display for Cause {
 
 macro_rules! refusals {
     ($($number:literal $name:ident $cause:ident $sentence:literal)*) => {
-        /// Why a call was refused. A refusal leaves everything as it was.
+        /// Why a call was refused, as in `docs/REFUSALS.md`.
         ///
         /// ```
-        /// use digribbon::{Cause, Error};
+        /// use digribbon::{Cause, Refusal};
         ///
-        /// let error = digribbon::packsize("!3").unwrap_err();
-        /// assert_eq!(error, Error::LimitNoPower);
-        /// assert_eq!(error.number(), 5);
-        /// assert_eq!(error.sentence(), "The limit of ! is no power of two.");
-        /// assert_eq!(error.cause(), Cause::Author);
+        /// let refusal = Refusal::LimitNoPower;
+        /// assert_eq!(refusal.number(), 5);
+        /// assert_eq!(refusal.sentence(), "The limit of ! is no power of two.");
+        /// assert_eq!(refusal.cause(), Cause::Author);
         /// ```
         #[derive(Clone, Copy, Debug, PartialEq, Eq, Hash)]
         #[non_exhaustive]
-        pub enum Error {
+        pub enum Refusal {
             $(#[doc = $sentence] $name = $number,)*
         }
 
-        impl Error {
+        impl Refusal {
             /// Every refusal, in the order of the numbers, which go from 1 on.
-            pub const ALL: &'static [Error] = &[$(Error::$name),*];
+            pub const ALL: &'static [Refusal] = &[$(Refusal::$name),*];
 
             /// What it says.
-            pub fn sentence(self) -> &'static str {
+            #[must_use]
+            pub const fn sentence(self) -> &'static str {
                 match self {
-                    $(Error::$name => $sentence,)*
+                    $(Refusal::$name => $sentence,)*
                 }
             }
 
             /// Who causes it.
-            pub fn cause(self) -> Cause {
+            #[must_use]
+            pub const fn cause(self) -> Cause {
                 match self {
-                    $(Error::$name => Cause::$cause,)*
+                    $(Refusal::$name => Cause::$cause,)*
                 }
             }
         }
@@ -91,22 +93,103 @@ refusals! {
     22 ResultTooLong Host "The result is longer than the lent buffer."
 }
 
-impl Error {
-    /// Its number in document 01.
-    pub fn number(self) -> u64 {
+impl Refusal {
+    /// Its number in `docs/REFUSALS.md`, which the library's C functions return.
+    #[must_use]
+    pub const fn number(self) -> u64 {
         self as u64
     }
 
     /// The refusal of a number.
-    pub fn from_number(number: u64) -> Option<Error> {
+    #[must_use]
+    pub fn from_number(number: u64) -> Option<Refusal> {
         let place = usize::try_from(number).ok()?.checked_sub(1)?;
-        Error::ALL.get(place).copied()
+        Refusal::ALL.get(place).copied()
+    }
+}
+
+/// A refused call: why, and which value it is about. A refusal leaves everything as it was.
+///
+/// ```
+/// use digribbon::{Cause, Refusal, ValueList};
+///
+/// let values = ValueList::from_values([7, 200])?;
+/// let error = digribbon::pack("i2 i1", &values).unwrap_err();
+/// assert_eq!(error, Refusal::OutOfRange);
+/// assert_eq!(error.value_position(), Some(2));
+/// assert_eq!(error.to_string(), "refusal 13 at value 2: An integer is out of its option's range.");
+///
+/// match error.refusal() {
+///     Refusal::NoValueLeft => println!("more values, please"),
+///     refusal if refusal.cause() == Cause::Author => println!("the format is wrong: {error}"),
+///     _ => println!("{error}"),
+/// }
+/// # Ok::<(), digribbon::TextTooLong>(())
+/// ```
+#[derive(Clone, Copy, Debug, PartialEq, Eq, Hash)]
+pub struct Error {
+    refusal: Refusal,
+    value: Option<NonZero<usize>>,
+}
+
+impl Error {
+    /// A refusal that is about the value at a position, from 1.
+    pub(crate) fn at_value(refusal: Refusal, position: usize) -> Error {
+        Error { refusal, value: NonZero::new(position) }
+    }
+
+    /// Why.
+    #[must_use]
+    pub const fn refusal(self) -> Refusal {
+        self.refusal
+    }
+
+    /// The refusal's number.
+    #[must_use]
+    pub const fn number(self) -> u64 {
+        self.refusal.number()
+    }
+
+    /// What the refusal says.
+    #[must_use]
+    pub const fn sentence(self) -> &'static str {
+        self.refusal.sentence()
+    }
+
+    /// Who causes the refusal.
+    #[must_use]
+    pub const fn cause(self) -> Cause {
+        self.refusal.cause()
+    }
+
+    /// Which value of the list the refusal is about, from 1. Writing says it of every refusal that the supplier of the
+    /// values causes; where no value is left, it is the one that is missing.
+    #[must_use]
+    pub fn value_position(self) -> Option<usize> {
+        self.value.map(NonZero::get)
+    }
+}
+
+impl From<Refusal> for Error {
+    fn from(refusal: Refusal) -> Error {
+        Error { refusal, value: None }
+    }
+}
+
+/// Whether the call was refused for this reason, whichever value it is about.
+impl PartialEq<Refusal> for Error {
+    fn eq(&self, refusal: &Refusal) -> bool {
+        self.refusal == *refusal
     }
 }
 
 impl fmt::Display for Error {
     fn fmt(&self, f: &mut fmt::Formatter<'_>) -> fmt::Result {
-        write!(f, "refusal {}: {}", self.number(), self.sentence())
+        write!(f, "refusal {}", self.number())?;
+        if let Some(value) = self.value {
+            write!(f, " at value {value}")?;
+        }
+        write!(f, ": {}", self.sentence())
     }
 }
 

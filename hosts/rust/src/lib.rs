@@ -1,6 +1,6 @@
 //! Lua's `string.pack`, `string.packsize` and `string.unpack`, by a library that is proved to do what it says.
 //!
-//! A format such as `<!4 b i` lays values out as bytes:
+//! A format such as `<!4 b i` lays values out as bytes. `docs/FORMAT.md` in Digribbon's repository has every option.
 //!
 //! ```
 //! use digribbon::ValueList;
@@ -15,78 +15,120 @@
 //! # Ok::<(), Box<dyn std::error::Error>>(())
 //! ```
 //!
-//! A call that is refused changes nothing and says why by an [`Error`]: a number, a sentence, and who causes it. Calls
-//! share nothing, so they may run in any number of threads.
-
-#![warn(missing_docs)]
+//! # Refusals
+//!
+//! A call that is refused changes nothing and says why by an [`Error`]: a [`Refusal`] with its number, a sentence and
+//! who causes it, as in `docs/REFUSALS.md`, and, in writing, which value it is about.
+//!
+//! # Memory
+//!
+//! [`pack`], [`unpack`] and [`Writer::write`] give results that take as much memory as they need, and use more while
+//! they run. Where the memory for a result can't be had, they are refused with [`Refusal::ResultTooLong`] and the
+//! process goes on. (A [`ValueList`] that is built grows as a `Vec` does, which ends the process there.) A short format
+//! can ask for a long record: `c2000000000` asks for two billion bytes. Where formats are not trusted, use
+//! [`pack_into`] or [`Writer::write_into`] with a buffer as long as the longest record that you accept. They allocate
+//! nothing. [`packsize`] says the length of a record beforehand, but not where the format has `z` or `s`, whose length
+//! depends on the values: `c2000000000z` is [`Refusal::NoFixedSize`].
+//!
+//! # Threads and the float environment
+//!
+//! Calls share nothing, so they may run in any number of threads. They assume the float environment that Rust assumes:
+//! rounding to nearest, no traps, and subnormal numbers that are not taken for zeros. Code that changes it for itself,
+//! as C or assembly can, restores it before it calls.
 
 #[cfg(not(target_pointer_width = "64"))]
 compile_error!("Digribbon is for hosts with pointers of 64 bits.");
 
 mod calls;
 mod error;
+mod reading;
+mod room;
 mod values;
 mod writer;
+mod writing;
 
-pub use error::{Cause, Error};
+pub use error::{Cause, Error, Refusal};
 pub use values::{Iter, TextTooLong, Value, ValueList, Values};
 pub use writer::{Order, Part, State, Writer};
 
+use writing::Writing;
+
 /// How long a record of the format is, at most 2^63-1.
 ///
+/// # Errors
+///
+/// The format's own: [`UnknownOption`](Refusal::UnknownOption) to [`NoFixedSize`](Refusal::NoFixedSize), which is for a
+/// format that has `z` or `s`.
+///
 /// ```
-/// use digribbon::Error;
+/// use digribbon::Refusal;
 ///
 /// assert_eq!(digribbon::packsize("<!8bn"), Ok(16));
-/// assert_eq!(digribbon::packsize("s1"), Err(Error::NoFixedSize));
+/// assert_eq!(digribbon::packsize("s1").unwrap_err(), Refusal::NoFixedSize);
 /// ```
 pub fn packsize(format: impl AsRef<[u8]>) -> Result<u64, Error> {
-    calls::packsize(format.as_ref())
+    Ok(calls::packsize(format.as_ref())?)
 }
 
 /// The values as a record. Values that the format does not take are ignored.
 ///
-/// Where no memory for the record can be had, this is [`Error::ResultTooLong`].
+/// # Errors
+///
+/// The format's own: [`UnknownOption`](Refusal::UnknownOption) to [`LengthTooLarge`](Refusal::LengthTooLarge). Those of
+/// a value, which they name: [`NoValueLeft`](Refusal::NoValueLeft) to [`TextDoesNotFit`](Refusal::TextDoesNotFit). And
+/// [`ResultTooLong`](Refusal::ResultTooLong) where no memory for the record can be had.
 ///
 /// ```
-/// use digribbon::{Error, ValueList};
+/// use digribbon::{Refusal, ValueList};
 ///
 /// let values = ValueList::from_values(["AB"])?;
 /// assert_eq!(digribbon::pack("<s1", &values)?, [2, b'A', b'B']);
-/// assert_eq!(digribbon::pack("<i3", &values), Err(Error::WrongKind));
+/// let error = digribbon::pack("<i3", &values).unwrap_err();
+/// assert_eq!((error.refusal(), error.value_position()), (Refusal::WrongKind, Some(1)));
 /// # Ok::<(), Box<dyn std::error::Error>>(())
 /// ```
 pub fn pack(format: impl AsRef<[u8]>, values: &Values) -> Result<Vec<u8>, Error> {
     let mut record = Vec::new();
-    calls::append_pack(format.as_ref(), values.as_bytes(), &mut record)?;
+    Writing::new(State::default(), format.as_ref(), values).append_to(&mut record)?;
     Ok(record)
 }
 
-/// [`pack`] into a buffer: the record's length. A refusal changes no byte of the buffer, and what lies behind the
-/// record is left as it was.
+/// [`pack`] into a buffer, with nothing allocated: the record's length. What lies behind the record is left as it was.
+///
+/// # Errors
+///
+/// Those of [`pack`]; [`ResultTooLong`](Refusal::ResultTooLong) where the buffer is shorter than the record. They
+/// change no byte of the buffer.
 ///
 /// ```
-/// use digribbon::{Error, ValueList};
+/// use digribbon::{Refusal, ValueList};
 ///
 /// let values = ValueList::from_values([258])?;
 /// let mut chip = [0xEE; 3];
 /// assert_eq!(digribbon::pack_into(">I2", &values, &mut chip), Ok(2));
 /// assert_eq!(chip, [1, 2, 0xEE]);
-/// assert_eq!(digribbon::pack_into(">I4", &values, &mut chip), Err(Error::ResultTooLong));
+/// assert_eq!(digribbon::pack_into(">I4", &values, &mut chip).unwrap_err(), Refusal::ResultTooLong);
 /// assert_eq!(chip, [1, 2, 0xEE]);
 /// # Ok::<(), digribbon::TextTooLong>(())
 /// ```
 pub fn pack_into(format: impl AsRef<[u8]>, values: &Values, record: &mut [u8]) -> Result<usize, Error> {
-    calls::pack(format.as_ref(), values.as_bytes(), calls::room(record))
+    let answer = Writing::new(State::default(), format.as_ref(), values).into_slice(record)?;
+    Ok(answer.written)
 }
 
 /// The values that the format reads from the data, and the position after the last byte read.
 ///
 /// Positions count from 1. The start is one of 1 to the data's length plus 1, or a negative number that counts from
-/// the end. Where no memory for the values can be had, this is [`Error::ResultTooLong`].
+/// the end.
+///
+/// # Errors
+///
+/// The format's own: [`UnknownOption`](Refusal::UnknownOption) to [`MissingNumeral`](Refusal::MissingNumeral). Those of
+/// the data: [`StartOutside`](Refusal::StartOutside) to [`TextAbove65535`](Refusal::TextAbove65535). And
+/// [`ResultTooLong`](Refusal::ResultTooLong) where no memory for the values can be had.
 ///
 /// ```
-/// use digribbon::{Error, Value};
+/// use digribbon::{Refusal, Value};
 ///
 /// let data = [2, b'A', b'B', 0xFE, 0xFF, 0xFF];
 /// let (name, position) = digribbon::unpack("s1", &data, 1)?;
@@ -94,25 +136,30 @@ pub fn pack_into(format: impl AsRef<[u8]>, values: &Values, record: &mut [u8]) -
 /// let (number, position) = digribbon::unpack("<i3", &data, position)?;
 /// assert_eq!(number.iter().next(), Some(Value::Integer(-2)));
 /// assert_eq!(position, 7);
-/// assert_eq!(digribbon::unpack("<i3", &data, -2), Err(Error::DataEnd));
-/// # Ok::<(), Error>(())
+/// assert_eq!(digribbon::unpack("<i3", &data, -2).unwrap_err(), Refusal::DataEnd);
+/// # Ok::<(), digribbon::Error>(())
 /// ```
 pub fn unpack(format: impl AsRef<[u8]>, data: &[u8], start: i64) -> Result<(ValueList, i64), Error> {
-    let (list, position) = calls::unpacked(format.as_ref(), data, start)?;
-    Ok((ValueList::trusted(list), position))
+    Ok(reading::unpack(format.as_ref(), data, start)?)
 }
 
-/// [`unpack`] into a buffer, whose front becomes the value list. [`list_bound`] says how long it need be at most.
+/// [`unpack`] into a buffer, with nothing allocated. The buffer's front becomes the value list; [`list_bound`] says how
+/// long it need be at most.
+///
+/// # Errors
+///
+/// Those of [`unpack`]; [`ResultTooLong`](Refusal::ResultTooLong) where the buffer is shorter than the list. They
+/// change no byte of the buffer.
 ///
 /// ```
-/// use digribbon::{Error, Value};
+/// use digribbon::{Refusal, Value};
 ///
 /// let mut room = [0; 11];
 /// let (values, position) = digribbon::unpack_into("B", &[200], 1, &mut room)?;
 /// assert_eq!(values.iter().next(), Some(Value::Integer(200)));
 /// assert_eq!(position, 2);
-/// assert_eq!(digribbon::unpack_into("BB", &[200, 200], 1, &mut room), Err(Error::ResultTooLong));
-/// # Ok::<(), Error>(())
+/// assert_eq!(digribbon::unpack_into("BB", &[200, 200], 1, &mut room).unwrap_err(), Refusal::ResultTooLong);
+/// # Ok::<(), digribbon::Error>(())
 /// ```
 pub fn unpack_into<'a>(
     format: impl AsRef<[u8]>,
@@ -126,9 +173,19 @@ pub fn unpack_into<'a>(
 
 /// A length that suffices for the value list of any accepted reading of so much data.
 ///
+/// # Errors
+///
+/// The format's own: [`UnknownOption`](Refusal::UnknownOption) to [`LengthTooLarge`](Refusal::LengthTooLarge), which is
+/// about the bound here. And [`Malformed`](Refusal::Malformed) for a data length above 2^63-1.
+///
 /// ```
 /// assert_eq!(digribbon::list_bound("<i3 z c4", 100), Ok(11 + 103 + 7));
 /// ```
 pub fn list_bound(format: impl AsRef<[u8]>, data_length: u64) -> Result<u64, Error> {
-    calls::list_bound(format.as_ref(), data_length)
+    Ok(calls::list_bound(format.as_ref(), data_length)?)
 }
+
+/// The examples of README.md.
+#[cfg(doctest)]
+#[doc = include_str!("../README.md")]
+struct Readme;

@@ -21,7 +21,10 @@ fn string_packsize() {
     let mut lua = Original::default();
     assert_eq!(lua.packsize(b"<!8bn"), Outcome::Accepted(16));
     assert_eq!(lua.packsize(b"!4i3"), Outcome::Refused);
-    assert_eq!(lua.message(), "refusal 6: An alignment is above 1 and no power of two.");
+    assert_eq!(
+        lua.message(),
+        "bad argument #1 to 'packsize' (refusal 6: An alignment is above 1 and no power of two.)"
+    );
 }
 
 #[test]
@@ -29,12 +32,29 @@ fn string_pack() {
     let mut lua = Original::default();
     let values = [Value::Integer(1), Value::float(2.0), text(b"AB"), Value::Other];
     assert_eq!(lua.pack(b"<!4 b i s1", &values), Outcome::Accepted(b"\x01\0\0\0\x02\0\0\0\x02AB".to_vec()));
-    assert_eq!(lua.pack(b"<i1", &[Value::Integer(200)]), Outcome::Refused);
-    assert_eq!(lua.message(), "refusal 13: An integer is out of its option's range.");
-    assert_eq!(lua.pack(b"z", &[Value::Other]), Outcome::Refused);
-    assert_eq!(lua.message(), "refusal 12: A value has the wrong kind.");
-    assert_eq!(lua.pack(b"bz", &[Value::Integer(1), text(&[1; 65_536])]), Outcome::Refused);
-    assert!(lua.message().starts_with("bad argument #3 to 'pack' (a text of 65536 bytes"), "{}", lua.message());
+}
+
+#[test]
+fn refusals_of_pack_name_their_argument() {
+    let mut lua = Original::default();
+    let refused = [
+        (&b"q"[..], vec![], "#1 to 'pack' (refusal 1: The format has a byte that is no option, or a byte above 127.)"),
+        (b"b", vec![], "#2 to 'pack' (refusal 11: No value is left.)"),
+        (b"<i1", vec![Value::Integer(200)], "#2 to 'pack' (refusal 13: An integer is out of its option's range.)"),
+        (b"bz", vec![Value::Integer(1), Value::Other], "#3 to 'pack' (refusal 12: A value has the wrong kind.)"),
+        (b"bz", vec![Value::Integer(1), text(&[1; 65_536])], "#3 to 'pack' (a text of 65536 bytes is above 65,535)"),
+    ];
+    for (format, values, message) in refused {
+        assert_eq!(lua.pack(format, &values), Outcome::Refused);
+        assert_eq!(lua.message(), format!("bad argument {message}"));
+    }
+}
+
+#[test]
+fn memory_that_cannot_be_had_is_an_error() {
+    let mut lua = Original::default();
+    assert_eq!(lua.pack(b"c9223372036854775807", &[text(b"A")]), Outcome::Refused);
+    assert_eq!(lua.message(), "not enough memory (refusal 22: The result is longer than the lent buffer.)");
 }
 
 #[test]
@@ -54,6 +74,30 @@ fn string_unpack() {
     let data = b"\xFE\xFF\xFF\0\0\xC0\x3FAB\0";
     assert_eq!(lua.unpack(b"<i3fz", data, 1), Outcome::Accepted((values, 11)));
     assert_eq!(lua.unpack(b"", data, -1), Outcome::Accepted((vec![], 10)));
-    assert_eq!(lua.unpack(b"b", data, 11), Outcome::Refused);
-    assert_eq!(lua.message(), "refusal 17: The data end too early.");
+}
+
+/// With those of README.md's list that are refusals here.
+#[test]
+fn refusals_of_unpack_name_their_argument() {
+    let mut lua = Original::default();
+    let refused = [
+        (&b"!4i3"[..], &b"ABC"[..], 1, "#1 to 'unpack' (refusal 6: An alignment is above 1 and no power of two.)"),
+        (
+            "Xé".as_bytes(),
+            b"",
+            1,
+            "#1 to 'unpack' (refusal 1: The format has a byte that is no option, or a byte above 127.)",
+        ),
+        (b"Xi17", b"", 1, "#1 to 'unpack' (refusal 3: The size of i, I, l, L or s is outside 1 to 16.)"),
+        (b"!4Xi", b"AB", 2, "#2 to 'unpack' (refusal 17: The data end too early.)"),
+        (b">i9", b"\xFF\0\0\0\0\0\0\0\0", 1, "#2 to 'unpack' (refusal 18: An integer does not fit 64 bits.)"),
+        (b"s9", b"\0\0\0\0\0\0\0\0\x01", 1, "#2 to 'unpack' (refusal 18: An integer does not fit 64 bits.)"),
+        (b"b", b"A", 3, "#3 to 'unpack' (refusal 16: The start position lies outside the data.)"),
+        (b"b", b"A", 2, "#2 to 'unpack' (refusal 17: The data end too early.)"),
+        (b"c65536", &[0; 65_536], 1, "#2 to 'unpack' (refusal 20: A text is longer than 65,535 bytes.)"),
+    ];
+    for (format, data, start, message) in refused {
+        assert_eq!(lua.unpack(format, data, start), Outcome::Refused);
+        assert_eq!(lua.message(), format!("bad argument {message}"));
+    }
 }

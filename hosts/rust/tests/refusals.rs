@@ -1,6 +1,6 @@
 //! The refusals here, in ../include/digribbon.h and in docs/REFUSALS.md are the same.
 
-use digribbon::Error;
+use digribbon::{Error, Refusal};
 use std::fs;
 use std::path::Path;
 
@@ -20,8 +20,8 @@ fn numbered(file: &str, start: &str) -> Vec<String> {
 
 #[test]
 fn docs_have_the_same_table() {
-    let table = Error::ALL.iter().map(|error| {
-        let (number, sentence, cause) = (error.number(), error.sentence(), error.cause());
+    let table = Refusal::ALL.iter().map(|refusal| {
+        let (number, sentence, cause) = (refusal.number(), refusal.sentence(), refusal.cause());
         format!("| {number} | {sentence} | {cause} |")
     });
     assert_eq!(numbered("../../docs/REFUSALS.md", "| "), table.collect::<Vec<_>>());
@@ -29,8 +29,8 @@ fn docs_have_the_same_table() {
 
 #[test]
 fn header_has_the_same_table() {
-    let table = Error::ALL.iter().map(|error| {
-        let (number, sentence, cause) = (error.number(), error.sentence(), error.cause());
+    let table = Refusal::ALL.iter().map(|refusal| {
+        let (number, sentence, cause) = (refusal.number(), refusal.sentence(), refusal.cause());
         format!("refusal({number}, \"{cause}\", \"{sentence}\")")
     });
     let header = numbered("../include/digribbon.h", "refusal(");
@@ -40,12 +40,21 @@ fn header_has_the_same_table() {
 
 #[test]
 fn numbers_lead_back() {
-    for (place, error) in Error::ALL.iter().enumerate() {
-        assert_eq!(error.number(), place as u64 + 1);
-        assert_eq!(Error::from_number(error.number()), Some(*error));
-        assert_eq!(error.to_string(), format!("refusal {}: {}", place + 1, error.sentence()));
+    for (place, refusal) in Refusal::ALL.iter().enumerate() {
+        assert_eq!(refusal.number(), place as u64 + 1);
+        assert_eq!(Refusal::from_number(refusal.number()), Some(*refusal));
     }
-    assert_eq!(Error::from_number(0), None);
-    assert_eq!(Error::from_number(Error::ALL.len() as u64 + 1), None);
-    assert_eq!(Error::from_number(u64::MAX), None);
+    assert_eq!(Refusal::from_number(0), None);
+    assert_eq!(Refusal::from_number(Refusal::ALL.len() as u64 + 1), None);
+    assert_eq!(Refusal::from_number(u64::MAX), None);
+}
+
+#[test]
+fn errors_say_what_their_refusal_says() {
+    for refusal in Refusal::ALL {
+        let error = Error::from(*refusal);
+        assert_eq!((error.refusal(), error.value_position()), (*refusal, None));
+        assert_eq!((error.number(), error.cause()), (refusal.number(), refusal.cause()));
+        assert_eq!(error.to_string(), format!("refusal {}: {}", refusal.number(), refusal.sentence()));
+    }
 }

@@ -2,7 +2,7 @@
 
 use crate::LuaValue;
 use crate::lua_vm::{LuaResult, LuaState};
-use digribbon::{Value, ValueList};
+use digribbon::{Cause, Error, Refusal, Value, ValueList};
 
 /// string.pack(fmt, v1, v2, ...)
 pub fn string_pack(l: &mut LuaState) -> LuaResult<usize> {
@@ -11,10 +11,12 @@ pub fn string_pack(l: &mut LuaState) -> LuaResult<usize> {
     for index in 2..=l.arg_count() {
         let argument = l.get_arg(index);
         if let Err(error) = values.push(argument.as_ref().map_or(Value::Other, value_of)) {
-            return Err(l.error(format!("bad argument #{index} to 'pack' ({error})")));
+            let length = error.length;
+            return bad_argument(l, index, "pack", &format!("a text of {length} bytes is above 65,535"));
         }
     }
-    let record = digribbon::pack(bytes_of(&format), &values).map_err(|error| l.error(error.to_string()))?;
+    let record = digribbon::pack(bytes_of(&format), &values);
+    let record = accepted(l, "pack", record)?;
     let record = l.create_binary(record)?;
     l.push_value(record)?;
     Ok(1)
@@ -23,7 +25,7 @@ pub fn string_pack(l: &mut LuaState) -> LuaResult<usize> {
 /// string.packsize(fmt)
 pub fn string_packsize(l: &mut LuaState) -> LuaResult<usize> {
     let format = text_argument(l, 1, "packsize")?;
-    let size = digribbon::packsize(bytes_of(&format)).map_err(|error| l.error(error.to_string()))?;
+    let size = accepted(l, "packsize", digribbon::packsize(bytes_of(&format)))?;
     l.push_value(LuaValue::integer(size as i64))?;
     Ok(1)
 }
@@ -33,8 +35,8 @@ pub fn string_unpack(l: &mut LuaState) -> LuaResult<usize> {
     let format = text_argument(l, 1, "unpack")?;
     let data = text_argument(l, 2, "unpack")?;
     let start = l.get_arg(3).and_then(|start| start.as_integer()).unwrap_or(1);
-    let (values, position) =
-        digribbon::unpack(bytes_of(&format), bytes_of(&data), start).map_err(|error| l.error(error.to_string()))?;
+    let answer = digribbon::unpack(bytes_of(&format), bytes_of(&data), start);
+    let (values, position) = accepted(l, "unpack", answer)?;
     let mut results = 1;
     for value in &values {
         let value = match value {
@@ -54,7 +56,7 @@ pub fn string_unpack(l: &mut LuaState) -> LuaResult<usize> {
 fn text_argument(l: &mut LuaState, index: usize, function: &str) -> LuaResult<LuaValue> {
     match l.get_arg(index) {
         Some(argument) if argument.as_bytes().is_some() => Ok(argument),
-        _ => Err(l.error(format!("bad argument #{index} to '{function}' (string expected)"))),
+        _ => bad_argument(l, index, function, "string expected"),
     }
 }
 
@@ -70,4 +72,28 @@ fn value_of(argument: &LuaValue) -> Value<'_> {
         (_, _, Some(float)) => Value::Float(float),
         _ => Value::Other,
     }
+}
+
+/// What a call gave; or its refusal as an error, which names the argument that it is about.
+fn accepted<T>(l: &mut LuaState, function: &str, answer: Result<T, Error>) -> LuaResult<T> {
+    let error = match answer {
+        Ok(answer) => return Ok(answer),
+        Err(error) => error,
+    };
+    let argument = match (error.refusal(), error.cause()) {
+        (_, Cause::Author) => Some(1),
+        (_, Cause::Supplier) => error.value_position().map(|value| value + 1),
+        (Refusal::StartOutside, _) => Some(3),
+        (_, Cause::CardData) => Some(2),
+        (_, Cause::Host) => None,
+    };
+    let refusal = format!("refusal {}: {}", error.number(), error.sentence());
+    match argument {
+        Some(index) => bad_argument(l, index, function, &refusal),
+        None => Err(l.error(format!("not enough memory ({refusal})"))),
+    }
+}
+
+fn bad_argument<T>(l: &mut LuaState, index: usize, function: &str, why: &str) -> LuaResult<T> {
+    Err(l.error(format!("bad argument #{index} to '{function}' ({why})")))
 }
