@@ -1,13 +1,11 @@
 -- The operand of X and of a byte that is no option, and how many bytes an option takes.
-use Prim.Native.Nat.{ℕ, _-_, _^_, _≤_, _<_}
+use Prim.Native.Nat.{ℕ, _^_, _≤_, _<_}
 use mathlib.Core.Path.{_≡_, refl, sym, ap}
 use mathlib.Core.Bool.{Bool, true, false, cond}
 use mathlib.Core.List.{List}
-use native.Mathlib.Nat.{le-refl}
 use native.Mathlib.Omega.{arith}
 use lib.Dec.{ltb, eqb}
-use lib.ListN.{length, take, drop, length-drop}
-use lib.Seq.{take-all}
+use lib.ListN.{length}
 use borrow.Author.Tests.{ltb-true, ltb-false}
 use Rattle.definition.specs.Answers.{Checked, refused, accepted}
 use Rattle.definition.specs.Options.{entry}
@@ -57,7 +55,3 @@ operand-bare e h s = go (ltb e 112) refl
     go : (t : Bool) → ltb e 112 ≡ t → accepted (sizeAt e, 0) ≡ operandAt (entryAt e) s
     go true q = rw (at-fixed e (ltb-true e 112 q)) (fixed-with (entry (Number (kindAt e)) (sizeAt e) (cond (eqb e 84) DigitsBehindX Nothing)) s (eqb e 84) refl refl)
     go false q = rw (at-plain e (ltb-false e 112 q) h) (fixed-with (entry (plainAt e) (sizeAt e) Nothing) s false (plain-by e (sizeAt e)) refl)
-
--- ---- the part of s from a place to its end
-pub part-rest : (a : ℕ) (s : List ℕ) → take (length s - a) (drop a s) ≡ drop a s
-part-rest a s = take-all (length s - a) (drop a s) (rw length-drop (le-refl (length s - a)))

@@ -5,18 +5,10 @@ use mathlib.Core.List.{List, [], _∷_}
 use native.Mathlib.Omega.{arith}
 use lib.ListN.{length}
 use Rattle.definition.specs.Options.{entryOf}
-use Rattle.definition.specs.Items.{isDigit, digits, isNumber, behindX, nextByte, takenBy}
+use Rattle.definition.specs.Items.{digits, isNumber, behindX, nextByte, takenBy}
 use Rattle.definition.specs.declared.NumeralRule.{NumeralRule}
 use Rattle.definition.specs.declared.NumeralRule.the-variants.{Nothing, Digits, DigitsBehindX, NextByte}
-
-digits-length : (s : List ℕ) → length (digits s) ≤ length s
-unfolding digits
-digits-length [] = omega arith
-digits-length (b ∷ s) = go (isDigit b) (digits-length s)
-  where
-    go : (t : Bool) → length (digits s) ≤ length s → length (cond t (b ∷ digits s) []) ≤ suc (length s)
-    go true h = omega arith
-    go false h = omega arith
+use Rattle.numeral.proofs.Digits.{digits-length}
 
 next-length : (s : List ℕ) → length (nextByte s) ≤ length s
 unfolding nextByte

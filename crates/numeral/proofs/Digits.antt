@@ -3,16 +3,16 @@ use Prim.Native.Nat.{ℕ, zero, suc, _+_, _*_, _-_, _^_, _≤_, _<_}
 use mathlib.Core.Path.{_≡_, refl, sym, ap, _∙_}
 use mathlib.Core.Bool.{Bool, true, false, _&&_, cond}
 use mathlib.Core.List.{List, [], _∷_}
-use native.Mathlib.Nat.{add-zero, zero-add, le-refl, le-trans}
+use native.Mathlib.Nat.{add-zero, zero-add, le-refl, le-trans, min-le-left, min-le-right}
 use native.Mathlib.Numerals.{add-one}
 use native.Mathlib.Omega.{arith}
 use lib.Dec.{ltb, leb, eqb}
-use lib.ListN.{length, getD, drop, drop-of-length-le}
-use lib.Seq.{drop-cons}
-use borrow.Author.Tests.{lt-ltb, le-ltb, ltb-true, ltb-false, leb-true, ne-eqb}
+use lib.ListN.{length, getD, take, drop, length-take, length-drop, drop-of-length-le}
+use lib.Seq.{drop-cons, take-all}
+use borrow.Author.Tests.{lt-ltb, le-ltb, ltb-false, leb-true, ne-eqb}
 use Rattle.definition.specs.Items.{isDigit, digits, value, numeralOf}
 use Rattle.definition.specs.declared.Numeral.the-variants as Numeral
-use Rattle.numeral.specs.Numerals.{digitFirst, grown, digitOn, readOn, scanned, shortOf}
+use Rattle.numeral.specs.Numerals.{digitFirst, grown, digitOn, readOn, scanBy, scanned, shortOf}
 use Rattle.numeral.specs.declared.Digit.{Digit}
 use Rattle.numeral.specs.declared.Digit.the-variants as Digit
 use Rattle.numeral.specs.declared.Scan.{Scan}
@@ -22,6 +22,15 @@ use Rattle.numeral.specs.declared.Short.the-variants as Short
 -- the bytes from a place on: the byte there, and those from the next place on
 pub drop-at : (s : List ℕ) (at : ℕ) → at < length s → drop at s ≡ getD s at 0 ∷ drop (at + 1) s
 drop-at s at h = rw (add-one, drop-cons s at 0)
+
+-- the same of the bytes left there
+left-at : (s : List ℕ) (at left : ℕ) → at < length s → 0 < left → take left (drop at s) ≡ getD s at 0 ∷ take (left - 1) (drop (at + 1) s)
+left-at s at zero h l = absurd (omega arith)
+left-at s at (suc left) h l = let q : suc left - 1 ≡ left = omega arith in rw (drop-at s at h, q)
+
+-- all that is left from a place on
+pub part-rest : (a : ℕ) (s : List ℕ) → take (length s - a) (drop a s) ≡ drop a s
+part-rest a s = take-all (length s - a) (drop a s) (rw length-drop (le-refl (length s - a)))
 
 -- ---- a digit at a place
 pub first-at : (s : List ℕ) (at : ℕ) → at < length s → digitFirst (drop at s) ≡ isDigit (getD s at 0)
@@ -44,8 +53,14 @@ pub both-right : (a b : Bool) → (a && b) ≡ true → b ≡ true
 both-right true b e = e
 both-right false b e = let z : _≡_ {A = ℕ} 0 1 = cc in absurd (omega arith)
 
+first-digit : (s : List ℕ) (at : ℕ) → digitFirst (drop at s) ≡ true → isDigit (getD s at 0) ≡ true
+first-digit s at e = sym (first-at s at (first-inside s at e)) ∙ e
+
 pub first-48 : (s : List ℕ) (at : ℕ) → digitFirst (drop at s) ≡ true → 48 ≤ getD s at 0
-first-48 s at e = leb-true 48 (getD s at 0) (both-left (leb 48 (getD s at 0)) (leb (getD s at 0) 57) (sym (first-at s at (first-inside s at e)) ∙ e))
+first-48 s at e = leb-true 48 (getD s at 0) (both-left (leb 48 (getD s at 0)) (leb (getD s at 0) 57) (first-digit s at e))
+
+first-57 : (s : List ℕ) (at : ℕ) → digitFirst (drop at s) ≡ true → getD s at 0 ≤ 57
+first-57 s at e = leb-true (getD s at 0) 57 (both-right (leb 48 (getD s at 0)) (leb (getD s at 0) 57) (first-digit s at e))
 
 -- ---- digits
 pub digits-stop : (s : List ℕ) → digitFirst s ≡ false → digits s ≡ []
@@ -60,10 +75,19 @@ digits-cons b s e = rw e
 pub digits-more : (s : List ℕ) (at : ℕ) → digitFirst (drop at s) ≡ true → digits (drop at s) ≡ getD s at 0 ∷ digits (drop (at + 1) s)
 digits-more s at e =
     let h : at < length s = first-inside s at e in
-    ap digits (drop-at s at h) ∙ digits-cons (getD s at 0) (drop (at + 1) s) (sym (first-at s at h) ∙ e)
+    ap digits (drop-at s at h) ∙ digits-cons (getD s at 0) (drop (at + 1) s) (first-digit s at e)
 
 pub digit-length : (s : List ℕ) (i : ℕ) → digitFirst (drop i s) ≡ true → i + 1 + length (digits (drop (i + 1) s)) ≡ i + length (digits (drop i s))
 digit-length s i e = rw (digits-more s i e) (omega arith)
+
+pub digits-length : (s : List ℕ) → length (digits s) ≤ length s
+unfolding digits
+digits-length [] = omega arith
+digits-length (b ∷ s) = go (isDigit b) (digits-length s)
+  where
+    go : (t : Bool) → length (digits s) ≤ length s → length (cond t (b ∷ digits s) []) ≤ suc (length s)
+    go true h = omega arith
+    go false h = omega arith
 
 -- a zero in front changes no value
 pub zero-value : (s : List ℕ) (i : ℕ) → i < length s → getD s i 0 ≡ 48 → value 0 (digits (drop (i + 1) s)) ≡ value 0 (digits (drop i s))
@@ -74,48 +98,45 @@ pub zero-length : (s : List ℕ) (i : ℕ) → i < length s → getD s i 0 ≡ 4
 zero-length s i h e = digit-length s i (first-at s i h ∙ ap isDigit e)
 
 -- ---- the next digit
-pub on-stop : (n : ℕ) (s : List ℕ) → digitFirst s ≡ false → digitOn n s ≡ Digit.Stop
+pub on-end : (n : ℕ) (s : List ℕ) (left : ℕ) → left ≡ 0 → digitOn n (take left s) ≡ Digit.Stop
 unfolding digitOn
-on-stop n [] e = refl
-on-stop n (b ∷ s) e = rw e
+on-end n s left e = rw e
+
+pub on-stop : (n : ℕ) (s : List ℕ) (left : ℕ) → digitFirst s ≡ false → digitOn n (take left s) ≡ Digit.Stop
+unfolding digitOn
+on-stop n s zero e = refl
+on-stop n [] (suc left) e = refl
+on-stop n (b ∷ s) (suc left) e = rw e
 
 on-cons : (n b : ℕ) (s : List ℕ) → isDigit b ≡ true → digitOn n (b ∷ s) ≡ grown (n * 10 + (b - 48))
 unfolding digitOn
 on-cons n b s e = rw e
 
-on-digit : (n : ℕ) (s : List ℕ) (at : ℕ) → digitFirst (drop at s) ≡ true → digitOn n (drop at s) ≡ grown (n * 10 + (getD s at 0 - 48))
-on-digit n s at e =
-    let h : at < length s = first-inside s at e in
-    ap (digitOn n) (drop-at s at h) ∙ on-cons n (getD s at 0) (drop (at + 1) s) (sym (first-at s at h) ∙ e)
+module _ (n : ℕ) (s : List ℕ) (at left : ℕ) (l : 0 < left) (e : digitFirst (drop at s) ≡ true) where
+  on-digit : digitOn n (take left (drop at s)) ≡ grown (n * 10 + (getD s at 0 - 48))
+  on-digit =
+      let some = on-cons n (getD s at 0) (take (left - 1) (drop (at + 1) s)) (first-digit s at e) in
+      rw (left-at s at left (first-inside s at e) l) some
 
-pub on-fits : (n : ℕ) (s : List ℕ) (at : ℕ) → digitFirst (drop at s) ≡ true → n * 10 + (getD s at 0 - 48) < 2 ^ 64 → digitOn n (drop at s) ≡ Digit.More (n * 10 + (getD s at 0 - 48))
-on-fits n s at e h = on-digit n s at e ∙ rw (lt-ltb (n * 10 + (getD s at 0 - 48)) (2 ^ 64) h)
+  pub on-fits : n * 10 + (getD s at 0 - 48) < 2 ^ 64 → digitOn n (take left (drop at s)) ≡ Digit.More (n * 10 + (getD s at 0 - 48))
+  on-fits h = on-digit ∙ rw (lt-ltb (n * 10 + (getD s at 0 - 48)) (2 ^ 64) h)
 
-pub on-large : (n : ℕ) (s : List ℕ) (at : ℕ) → digitFirst (drop at s) ≡ true → 2 ^ 64 ≤ n * 10 + (getD s at 0 - 48) → digitOn n (drop at s) ≡ Digit.TooLarge
-on-large n s at e h = on-digit n s at e ∙ rw (le-ltb (n * 10 + (getD s at 0 - 48)) (2 ^ 64) h)
+  pub on-large : 2 ^ 64 ≤ n * 10 + (getD s at 0 - 48) → digitOn n (take left (drop at s)) ≡ Digit.TooLarge
+  on-large h = on-digit ∙ rw (le-ltb (n * 10 + (getD s at 0 - 48)) (2 ^ 64) h)
 
-pub more-inside : (n : ℕ) (s : List ℕ) (at m : ℕ) → digitOn n (drop at s) ≡ Digit.More m → at < length s
-more-inside n s at m e = go (digitFirst (drop at s)) refl
-  where
-    go : (t : Bool) → digitFirst (drop at s) ≡ t → at < length s
-    go true h = first-inside s at h
-    go false h = let f = on-stop n (drop at s) h in let z : _≡_ {A = ℕ} 0 1 = cc in omega arith
-
-grown-below : (k m : ℕ) → grown k ≡ Digit.More m → m < 2 ^ 64
-grown-below k m e = go (ltb k (2 ^ 64)) refl e
-  where
-    go : (t : Bool) → ltb k (2 ^ 64) ≡ t → cond t (Digit.More k) Digit.TooLarge ≡ Digit.More m → m < 2 ^ 64
-    go true h f = let q : k ≡ m = cc in omega (arith, ltb-true k (2 ^ 64) h)
-    go false h f = let z : _≡_ {A = ℕ} 0 1 = cc in omega arith
-
-pub more-below : (n : ℕ) (s : List ℕ) (m : ℕ) → digitOn n s ≡ Digit.More m → m < 2 ^ 64
+-- a further digit has a byte
+on-some : (n : ℕ) (s : List ℕ) (m : ℕ) → digitOn n s ≡ Digit.More m → 0 < length s
 unfolding digitOn
-more-below n [] m e = let z : _≡_ {A = ℕ} 0 1 = cc in omega arith
-more-below n (b ∷ s) m e = go (isDigit b) e
-  where
-    go : (t : Bool) → cond t (grown (n * 10 + (b - 48))) Digit.Stop ≡ Digit.More m → m < 2 ^ 64
-    go true f = grown-below (n * 10 + (b - 48)) m f
-    go false f = let z : _≡_ {A = ℕ} 0 1 = cc in omega arith
+on-some n [] m e = let z : _≡_ {A = ℕ} 0 1 = cc in omega arith
+on-some n (b ∷ s) m e = omega arith
+
+pub more-inside : (n : ℕ) (s : List ℕ) (at left m : ℕ) → digitOn n (take left (drop at s)) ≡ Digit.More m → (at < length s) × (0 < left)
+more-inside n s at left m e =
+    let h : 0 < length (take left (drop at s)) = on-some n (take left (drop at s)) m e in
+    let k = rw (length-take, length-drop) at h in
+    let l = min-le-left left (length s - at) in
+    let r = min-le-right left (length s - at) in
+    (omega arith, omega arith)
 
 -- ---- the digits from a place on
 
@@ -123,7 +144,7 @@ more-below n (b ∷ s) m e = go (isDigit b) e
 abbrev pub onward : ℕ → ℕ → List ℕ → Digit → Scan
 onward n at s Digit.Stop = Value n at
 onward n at s Digit.TooLarge = TooLarge
-onward n at s (Digit.More m) = readOn m (at + 1) (digits (drop (at + 1) s))
+onward n at s (Digit.More m) = readOn m (at + 1) (digits (drop 1 s))
 
 le-value : (n : ℕ) (ds : List ℕ) → n ≤ value n ds
 unfolding value
@@ -134,27 +155,35 @@ read-none : (n at : ℕ) → n < 2 ^ 64 → readOn n at [] ≡ Value n at
 unfolding readOn value
 read-none n at h = rw (lt-ltb n (2 ^ 64) h, add-zero)
 
-read-digit : (n at b : ℕ) (ds s : List ℕ) → ds ≡ digits (drop (at + 1) s) → readOn n at (b ∷ ds) ≡ onward n at s (grown (n * 10 + (b - 48)))
+read-digit : (n at b : ℕ) (s : List ℕ) → readOn n at (b ∷ digits s) ≡ onward n at (b ∷ s) (grown (n * 10 + (b - 48)))
 unfolding readOn value
-read-digit n at b ds s e = go (ltb (n * 10 + (b - 48)) (2 ^ 64)) refl
+read-digit n at b s = go (ltb m (2 ^ 64)) refl
   where
     m : ℕ
     m = n * 10 + (b - 48)
 
-    go : (t : Bool) → ltb m (2 ^ 64) ≡ t → cond (ltb (value m ds) (2 ^ 64)) (Value (value m ds) (at + suc (length ds))) TooLarge ≡ onward n at s (cond t (Digit.More m) Digit.TooLarge)
-    go true h = let q : at + suc (length ds) ≡ at + 1 + length ds = omega arith in rw (← e, q)
-    go false h = rw (le-ltb (value m ds) (2 ^ 64) (le-trans (ltb-false m (2 ^ 64) h) (le-value m ds)))
+    v : ℕ
+    v = value m (digits s)
 
-pub read-on : (n at : ℕ) (s : List ℕ) → n < 2 ^ 64 → readOn n at (digits (drop at s)) ≡ onward n at s (digitOn n (drop at s))
-read-on n at s h = go (digitFirst (drop at s)) refl
+    k : ℕ
+    k = length (digits s)
+
+    go : (t : Bool) → ltb m (2 ^ 64) ≡ t → cond (ltb v (2 ^ 64)) (Value v (at + suc k)) TooLarge ≡ onward n at (b ∷ s) (cond t (Digit.More m) Digit.TooLarge)
+    go true h = let q : at + suc k ≡ at + 1 + k = omega arith in rw q
+    go false h = rw (le-ltb v (2 ^ 64) (le-trans (ltb-false m (2 ^ 64) h) (le-value m (digits s))))
+
+pub read-on : (n at : ℕ) (s : List ℕ) → n < 2 ^ 64 → readOn n at (digits s) ≡ onward n at s (digitOn n s)
+unfolding digits digitOn
+read-on n at [] h = read-none n at h
+read-on n at (b ∷ s) h = go (isDigit b)
   where
-    go : (t : Bool) → digitFirst (drop at s) ≡ t → readOn n at (digits (drop at s)) ≡ onward n at s (digitOn n (drop at s))
-    go true e = rw (digits-more s at e, on-digit n s at e) (read-digit n at (getD s at 0) (digits (drop (at + 1) s)) s refl)
-    go false e = rw (digits-stop (drop at s) e, on-stop n (drop at s) e) (read-none n at h)
+    go : (t : Bool) → readOn n at (cond t (b ∷ digits s) []) ≡ onward n at (b ∷ s) (cond t (grown (n * 10 + (b - 48))) Digit.Stop)
+    go true = read-digit n at b s
+    go false = read-none n at h
 
--- no digit follows
-pub read-end : (m p : ℕ) (s : List ℕ) → m < 2 ^ 64 → digitFirst (drop p s) ≡ false → Value m p ≡ readOn m p (digits (drop p s))
-read-end m p s h e = sym (ap (readOn m p) (digits-stop (drop p s) e) ∙ read-none m p h)
+-- what a digit leaves: one byte less
+pub left-behind : (s : List ℕ) (at left : ℕ) → at < length s → 0 < left → drop 1 (take left (drop at s)) ≡ take (left - 1) (drop (at + 1) s)
+left-behind s at left h l = rw (left-at s at left h l)
 
 -- ---- the numeral at the front
 abbrev pub scanOf : List ℕ → Scan
@@ -182,29 +211,47 @@ read-same : (i at : ℕ) (s t : List ℕ) → value 0 s ≡ value 0 t → i + le
 unfolding readOn
 read-same i at s t e f = rw (e, f)
 
--- the first step of a numeral, past its zeros, and what it leaves
-pub scan-step : (s : List ℕ) (i : ℕ) → digitFirst s ≡ true → value 0 (digits (drop i s)) ≡ value 0 (digits s) → i + length (digits (drop i s)) ≡ length (digits s)
-    → (x : Digit) → x ≡ digitOn 0 (drop i s) → onward 0 i s x ≡ scanOf s
-scan-step s i d ev el x ex = ap (onward 0 i s) ex ∙ sym (read-on 0 i s (omega arith)) ∙ read-same i 0 (digits (drop i s)) (digits s) ev (el ∙ sym (zero-add (length (digits s)))) ∙ sym (scan-some s d)
+-- the rest of a numeral, past its zeros, with all bytes left
+pub scan-rest : (s : List ℕ) (i : ℕ) → digitFirst s ≡ true
+    → value 0 (digits (drop i s)) ≡ value 0 (digits s)
+    → i + length (digits (drop i s)) ≡ length (digits s)
+    → readOn 0 i (digits (take (length s - i) (drop i s))) ≡ scanOf s
+scan-rest s i d ev el =
+    ap (λ (l : List ℕ). readOn 0 i (digits l)) (part-rest i s)
+    ∙ read-same i 0 (digits (drop i s)) (digits s) ev (el ∙ sym (zero-add (length (digits s)))) ∙ sym (scan-some s d)
 
 -- ---- what a numeral shows at once
 pub short-none : (s : List ℕ) → digitFirst s ≡ false → shortOf (digits s) ≡ Short.Missing
 short-none s e = rw (digits-stop s e)
 
-zero-long : (ds : List ℕ) → shortOf (48 ∷ ds) ≡ Short.Long
-zero-long [] = refl
-zero-long (d ∷ ds) = refl
+-- the number that one digit makes
+digit-made : (d at : ℕ) (t : Bool) (n i : ℕ) → isDigit d ≡ true → d ≤ 57 → scanBy t n i ≡ readOn 0 at (digits (d ∷ [])) → n ≡ d - 48
+unfolding digits readOn value
+digit-made d at t n i e h q = go t (q ∙ rw (e, lt-ltb (0 * 10 + (d - 48)) (2 ^ 64) (omega arith)))
+  where
+    go : (t : Bool) → scanBy t n i ≡ Value (0 * 10 + (d - 48)) (at + 1) → n ≡ d - 48
+    go true r = let v : n ≡ 0 * 10 + (d - 48) = cc in omega arith
+    go false r = let z : _≡_ {A = ℕ} 0 1 = cc in absurd (omega arith)
 
--- the digit d, which the code reads as the number n
-pub short-zero : (s : List ℕ) (at : ℕ) → digitFirst (drop at s) ≡ true → getD s at 0 - 48 ≡ 0 → Short.Long ≡ shortOf (digits (drop at s))
-short-zero s at e z =
-    let d : getD s at 0 ≡ 48 = omega (arith, first-48 s at e) in
-    sym (ap shortOf (digits-more s at e) ∙ ap (λ (x : ℕ). shortOf (x ∷ digits (drop (at + 1) s))) d ∙ zero-long (digits (drop (at + 1) s)))
+module _ (s : List ℕ) (at : ℕ) (e : digitFirst (drop at s) ≡ true) where
+  pub short-long : digitFirst (drop (at + 1) s) ≡ true → Short.Long ≡ shortOf (digits (drop at s))
+  short-long f = rw (digits-more s at e, digits-more s (at + 1) f)
 
-pub short-long : (s : List ℕ) (at : ℕ) → digitFirst (drop at s) ≡ true → digitFirst (drop (at + 1) s) ≡ true → Short.Long ≡ shortOf (digits (drop at s))
-short-long s at e f = sym (ap shortOf (digits-more s at e ∙ ap (λ (l : List ℕ). getD s at 0 ∷ l) (digits-more s (at + 1) f)))
+  -- no digit follows, and n was read with one byte left
+  module _ (f : digitFirst (drop (at + 1) s) ≡ false) (t : Bool) (n i : ℕ)
+      (q : scanBy t n i ≡ readOn 0 at (digits (take 1 (drop at s)))) where
+    alone : digits (drop at s) ≡ getD s at 0 ∷ []
+    alone = rw (digits-more s at e, digits-stop (drop (at + 1) s) f)
 
-pub short-one : (s : List ℕ) (at : ℕ) → digitFirst (drop at s) ≡ true → digitFirst (drop (at + 1) s) ≡ false → (n : ℕ) → n ≡ getD s at 0 - 48 → (n ≡ 0 → ⊥) → Short.Digit n ≡ shortOf (digits (drop at s))
-short-one s at e f n q z =
-    let d : eqb (getD s at 0) 48 ≡ false = ne-eqb (getD s at 0) 48 (λ (p : getD s at 0 ≡ 48). z (omega arith)) in
-    sym (ap shortOf (digits-more s at e ∙ ap (λ (l : List ℕ). getD s at 0 ∷ l) (digits-stop (drop (at + 1) s) f)) ∙ rw (d, ← q))
+    made : n ≡ getD s at 0 - 48
+    made =
+        let one = left-at s at 1 (first-inside s at e) (omega arith) in
+        digit-made (getD s at 0) at t n i (first-digit s at e) (first-57 s at e) (rw one at q)
+
+    pub short-zero : n ≡ 0 → Short.Long ≡ shortOf (digits (drop at s))
+    short-zero z = let d : getD s at 0 ≡ 48 = omega (arith, first-48 s at e, made) in rw (alone, d)
+
+    pub short-one : (n ≡ 0 → ⊥) → Short.Digit n ≡ shortOf (digits (drop at s))
+    short-one z =
+        let d : eqb (getD s at 0) 48 ≡ false = ne-eqb (getD s at 0) 48 (λ (p : getD s at 0 ≡ 48). z (omega (arith, made))) in
+        rw (alone, d, ← made)

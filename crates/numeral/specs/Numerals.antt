@@ -1,7 +1,7 @@
 -- What the readers of a numeral answer.
 use Prim.Native.Nat.{ℕ, _+_, _*_, _-_, _^_}
 use Prim.Native.Char.{code}
-use mathlib.Core.Bool.{Bool, false, cond}
+use mathlib.Core.Bool.{Bool, true, false, cond}
 use mathlib.Core.List.{List, [], _∷_}
 use lib.Dec.{ltb, eqb}
 use lib.ListN.{length}
@@ -32,6 +32,11 @@ digitOn n (b ∷ s) = cond (isDigit b) (grown (n * 10 + (b - code "0"))) Digit.S
 -- the digits ds at a place, after those that made n
 unfoldable pub readOn : ℕ → ℕ → List ℕ → Scan
 readOn n at ds = cond (ltb (value n ds) (2 ^ 64)) (Scan.Value (value n ds) (at + length ds)) Scan.TooLarge
+
+-- whether a number fits, the number, and the place after its digits
+abbrev pub scanBy : Bool → ℕ → ℕ → Scan
+scanBy true n at = Scan.Value n at
+scanBy false n at = Scan.TooLarge
 
 -- a numeral, and the place after its digits
 abbrev pub scanned : Numeral → ℕ → Scan

@@ -1,10 +1,10 @@
 // Numerals: leading zeros, and digits that do not count, are passed by a loop, and the rest is read by recursion.
 ghost use mathlib.Core.Path.{_≡_};
-ghost use Prim.Native.Nat.{_+_, _-_};
+ghost use Prim.Native.Nat.{_+_, _-_, _^_, _<_};
 ghost use mathlib.Core.Bool.{true};
-ghost use lib.ListN.{length, getD, drop};
+ghost use lib.ListN.{length, getD, take, drop};
 ghost use Rattle.definition.specs.Items.{digits, value, numeralOf};
-ghost use Rattle.numeral.specs.Numerals.{digitFirst, digitOn, readOn, scanned, shortOf};
+ghost use Rattle.numeral.specs.Numerals.{digitFirst, digitOn, readOn, scanBy, scanned, shortOf};
 
 // What stands at a place of a numeral: no digit, one that makes 2^64 or more, or one and the number so far.
 pub enum Digit {
@@ -80,10 +80,13 @@ pub fn skip_digits(text: &[u8], at: usize) -> usize
     i
 }
 
-// The digit at a place, after those that made n.
-fn digit_on(text: &[u8], at: usize, n: u64) -> Digit
-    ensures { λ r. ⌜ r ≡ digitOn n (drop at (now (text .entry))) ⌝ }
+// The digit at a place, after those that made n; none where no byte is left.
+fn digit_on(text: &[u8], at: usize, n: u64, left: usize) -> Digit
+    ensures { λ r. ⌜ r ≡ digitOn n (take left (drop at (now (text .entry)))) ⌝ }
 {
+    if left == 0 {
+        return Digit::Stop;
+    }
     if !digit_at(text, at) {
         return Digit::Stop;
     }
@@ -98,14 +101,21 @@ fn digit_on(text: &[u8], at: usize, n: u64) -> Digit
     Digit::More(tens + d)
 }
 
-// The rest of a numeral at a place, after the digits that made n, one digit a step.
-fn read_digits(text: &[u8], at: usize, n: u64) -> Scan
-    ensures { λ r. ⌜ r ≡ readOn n at (digits (drop at (now (text .entry)))) ⌝ }
+// Reads the digits at a place one a step, as long as bytes are left: n, which the digits before made, becomes the number that they make, and
+// at the place after them. False says that they make 2^64 or more. The slice is lent by a reference, as n and at are, so that a step compiles
+// to a jump.
+fn read_digits(text: &&[u8], at: &mut usize, n: &mut u64, left: usize) -> bool
+    requires { ⌜ length (now (now text)) < 2 ^ 63 ⌝ }
+    ensures { λ r. ⌜ scanBy r (now (n .exit)) (now (at .exit)) ≡ readOn (now (n .entry)) (now (at .entry)) (digits (take left (drop (now (at .entry)) (now (now (text .entry)))))) ⌝ }
 {
-    match digit_on(text, at, n) {
-        Digit::Stop => Scan::Value(n, at),
-        Digit::TooLarge => Scan::TooLarge,
-        Digit::More(m) => read_digits(text, at + 1, m),
+    match digit_on(*text, *at, *n, left) {
+        Digit::Stop => true,
+        Digit::TooLarge => false,
+        Digit::More(m) => {
+            *n = m;
+            *at += 1;
+            read_digits(text, at, n, left - 1)
+        }
     }
 }
 
@@ -116,32 +126,30 @@ pub fn read(text: &[u8]) -> Scan
     if !digit_at(text, 0) {
         return Scan::Missing;
     }
-    let i = skip_zeros(text);
-    match digit_on(text, i, 0) {
-        Digit::Stop => Scan::Value(0, i),
-        Digit::TooLarge => Scan::TooLarge,
-        Digit::More(m) => {
-            if digit_at(text, i + 1) {
-                return read_digits(text, i + 1, m);
-            }
-            Scan::Value(m, i + 1)
-        }
+    let mut i = skip_zeros(text);
+    let mut n = 0;
+    let left = text.len() - i;
+    if read_digits(&text, &mut i, &mut n, left) {
+        return Scan::Value(n, i);
     }
+    Scan::TooLarge
 }
 
-// What the numeral at a place shows at once.
+// What the numeral at a place shows at once. A digit alone is read with one byte left.
 pub fn peek(text: &[u8], at: usize) -> Short
     ensures { λ r. ⌜ r ≡ shortOf (digits (drop at (now (text .entry)))) ⌝ }
 {
     if !digit_at(text, at) {
         return Short::Missing;
     }
-    let d = digit_value(text, at);
-    if d == 0 {
-        return Short::Long;
-    }
     if digit_at(text, at + 1) {
         return Short::Long;
     }
-    Short::Digit(d)
+    let mut i = at;
+    let mut n = 0;
+    read_digits(&text, &mut i, &mut n, 1);
+    if n == 0 {
+        return Short::Long;
+    }
+    Short::Digit(n)
 }

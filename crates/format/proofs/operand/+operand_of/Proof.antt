@@ -9,7 +9,8 @@ use lib.ListN.{length, drop, length-drop}
 use Rattle.format.specs.Operands.{operandAt, oneMore, behindOf}
 use Rattle.format.specs.Packed.{entryAt}
 use Rattle.format.specs.declared.operand.Behind.{Behind}
-use Rattle.format.proofs.Operands.{operand-none, operand-x, room, part-rest}
+use Rattle.numeral.proofs.Digits.{part-rest}
+use Rattle.format.proofs.Operands.{operand-none, operand-x, room}
 use Rattle.format.proofs.operand.operand_of.Reads as operand-of
 use Rattle.format.proofs.operand.operand_of.Kinds as operand-of-kinds
 use Rattle.format.proofs.operand.+operand_of.Lts-operand_of as operand-of-lts

@@ -8,7 +8,7 @@ use denote.Ref.{now}
 use lib.ListN.{drop}
 use Rattle.format.specs.Operands.{operandAt}
 use Rattle.format.specs.Packed.{entryAt}
-use Rattle.format.proofs.Operands.{part-rest}
+use Rattle.numeral.proofs.Digits.{part-rest}
 use Rattle.format.proofs.Shown.{shown-missing, shown-digit, digit-size, digit-limit, shown-long}
 use Rattle.format.proofs.operand.operand_at.Statement.{statement}
 use Rattle.format.proofs.operand.operand_at.Tie as tie
