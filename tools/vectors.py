@@ -193,6 +193,8 @@ def floats():
             2.0 ** 63 + 4096, 2.0 ** 64, 2.0 ** 64 + 4096, 2.0 ** 65, 2.0 ** 65 + 2.0 ** 13, 2.0 ** 116, 2.0 ** 117, 1e300,
             5e-324, 2.2250738585072014e-308, 1e-9, 0.1, 1e18, 1e19, 3e19, 123456789.25]
     seen = [b for x in near for b in around(bits64(x))]
+    # at every exponent below 2^64 the last bit before the point and the first one behind it
+    seen += [bits64(x) for k in range(64) for x in (2.0 ** k + 1, -(2.0 ** k) - 1, 2.0 ** k + 0.5, -(2.0 ** k) - 0.5)]
     seen += [0, 1 << 63, 0x7FF << 52, 0xFFF << 52] + NANS64
     seen += [rng.getrandbits(1) << 63 | rng.randrange(1023 - 3, 1023 + 70) << 52 | rng.getrandbits(52) for _ in range(60)]
     return list(dict.fromkeys(seen))
@@ -209,7 +211,8 @@ def option_t():
 
 def whole():
     """Integers at which rounding to f64 has something to decide, and the one that shows rounding twice."""
-    near = [m + d for k in (24, 53, 54, 55, 60, 62) for m in (1 << k, (1 << k) + (1 << max(k - 53, 0))) for d in range(-3, 4)]
+    near = [m + d for k in (24, *range(53, 63)) for m in (1 << k, (1 << k) + (1 << max(k - 53, 0))) for d in range(-3, 4)]
+    near += [1 << k for k in range(63)] + [(1 << k) - 1 for k in range(63)]
     near += [(1 << 63) - d for d in (1, 255, 256, 257, 511, 512, 513, 1023, 1024, 1025, 1536, 1537)]
     near += [0, 1, 1152921573326323713, 1152921573326323712, 16777217, 16777219, 33554433]
     return [s * z for z in dict.fromkeys(near) for s in (1, -1)] + [-(1 << 63)]

@@ -1,24 +1,25 @@
--- Where a float is an integer of 64 bits: in range, just where the nearest float to its whole part is the float itself.
+-- The integer that a float equals, by the float's bits: below 1 only 0 has one, and from 2 ^ 64 on none has. Between, with the exponent x, the
+-- float is its significand, the leading bit at 2 ^ 63, divided by 2 ^ (1086 - x), and it is whole where nothing is left.
 use mathlib.Core.Path.{_≡_, refl, sym, ap, _∙_}
-use mathlib.Core.Logic.{_⊎_, inl, inr}
-use mathlib.Core.Bool.{Bool, true, false, _&&_, _||_, Bool·beq, cond, false≢true, true≢false}
+use mathlib.Core.Bool.{Bool, true, false, cond}
 use mathlib.Core.Option.{none, some}
-use Prim.Native.Nat.{ℕ, zero, suc, _+_, _-_, _*_, _/_, _%_, _^_, _≤_, _<_, min}
-use native.Mathlib.Nat.{le-trans, le-of-eq, le-of-lt, lt-of-le-of-lt, lt-of-lt-of-le, mul-comm, mul-assoc, mul-right-comm, mul-one, mul-le-mul-right, div-le-self, div-one, div-add-mod', div-lt-iff-lt-mul, le-div-iff-mul-le, div-le-of-le-mul, lt-of-mul-lt-mul-right, eq-of-mul-eq-mul-right, zero-mul}
+use Prim.Native.Nat.{ℕ, zero, suc, _+_, _-_, _*_, _/_, _%_, _^_, _≤_, _<_}
+use native.Mathlib.Nat.{le-trans, lt-of-lt-of-le, lt-of-le-of-lt, le-add-right, one-mul, mul-pos, mul-right-comm, mul-le-mul-right, zero-mul, eq-of-mul-eq-mul-right, div-add-mod', div-eq-of-lt, div-mul-le-self, le-div-iff-mul-le, mod-lt, mod-eq-of-lt}
 use native.Mathlib.Omega.{arith}
-use lib.IntN.{ℤ, pos, negsuc, negℤ}
-use lib.Dec.{T, leb, ltb, eqb, lit<}
-use lib.Pow.{pow-add, pow-pos}
-use borrow.Author.Tests.{lt-ltb, le-ltb, eq-eqb, ne-eqb, ltb-true, ltb-false, leb-true, leb-false, eqb-true, eqb-false}
-use lib.Ieee.{Float, nan, inf, fin, binary64, up, down, round, ofInt, toSigned, fits, eq, lt, le}
+use lib.IntN.{pos}
+use lib.Dec.{eqb, leb, lit≤}
+use lib.Pow.{pow-add, pow-pos, pow-mono, shl-lt}
+use borrow.Author.Tests.{eq-eqb, ne-eqb, eqb-true, eqb-false, le-ltb}
+use lib.Ieee.{Float, nan, inf, fin, binary64, up, down, odd, ofFields, ofBits}
 use lib.Ieee.Fits.{down-pos}
-use lib.Ieee.Back.{round-whole}
-use lib.Ieee.Exact.{HasValue, round-exact}
+use lib.Ieee.Exact.{HasValue, odd-sign}
+use lib.Ieee.Nearest.{div-same}
+use Rattle.single.proofs.Packing.{rescale}
+use Rattle.single.proofs.Widening.{shifted}
 use Rattle.definition.specs.Bytes.{extent}
-use Rattle.definition.specs.Values.{withSign, integerWhere, integerOf}
-use Rattle.numbers.proofs.Digits.{whole-few, fraction-few}
+use Rattle.definition.specs.Values.{float, withSign, integerWhere, integerOf, asInteger}
 
--- ---- a float of the whole number w and of the sign of n / d equals n / d just where nothing is left of n
+-- ---- of a value a / c
 
 same-times : (a b c : ℕ) → 0 < c → eqb (a * c) (b * c) ≡ eqb a b
 same-times a b c h = go (eqb a b) refl
@@ -27,149 +28,151 @@ same-times a b c h = go (eqb a b) refl
     go true e = eq-eqb (a * c) (b * c) (ap (λ (x : ℕ). x * c) (eqb-true a b e))
     go false e = ne-eqb (a * c) (b * c) (λ (z : a * c ≡ b * c). eqb-false a b e (eq-of-mul-eq-mul-right c h a b z))
 
-nothing-left : (n d : ℕ) → eqb (n / d * d) n ≡ eqb (n % d) 0
-nothing-left n d = go (eqb (n % d) 0) refl
+nothing-left : (n d : ℕ) → eqb (n % d) 0 ≡ eqb (n / d * d) n
+nothing-left n d = go (eqb (n / d * d) n) refl
   where
-    go : (t : Bool) → eqb (n % d) 0 ≡ t → eqb (n / d * d) n ≡ t
-    go true e = eq-eqb (n / d * d) n (omega (arith, div-add-mod' n d, eqb-true (n % d) 0 e))
-    go false e = ne-eqb (n / d * d) n (λ (z : n / d * d ≡ n). eqb-false (n % d) 0 e (omega (arith, div-add-mod' n d)))
+    go : (t : Bool) → eqb (n / d * d) n ≡ t → eqb (n % d) 0 ≡ t
+    go true e = eq-eqb (n % d) 0 (omega (arith, div-add-mod' n d, eqb-true (n / d * d) n e))
+    go false e = ne-eqb (n % d) 0 (λ (z : n % d ≡ 0). eqb-false (n / d * d) n e (omega (arith, div-add-mod' n d)))
 
-signs : (b s z p : Bool) → (b ≡ s) ⊎ (z ≡ true) → (p && (Bool·beq b s || z)) ≡ p
-signs b s z false c = refl
-signs true true z true c = refl
-signs false false z true c = refl
-signs true false z true (inl e) = absurd (true≢false e)
-signs false true z true (inl e) = absurd (false≢true e)
-signs true false z true (inr e) = e
-signs false true z true (inr e) = e
+-- the same of the same fraction
+same-left : (n d a c : ℕ) → 0 < d → 0 < c → n * c ≡ a * d → eqb (n / d * d) n ≡ eqb (a / c * c) a
+same-left n d a c d-pos c-pos e =
+    sym (same-times (n / d * d) n c c-pos)
+    ∙ ap (λ (q : ℕ). eqb (q * d * c) (n * c)) (div-same n d a c d-pos c-pos e)
+    ∙ ap (λ (m : ℕ). eqb m (n * c)) (mul-right-comm (a / c) d c)
+    ∙ ap (eqb (a / c * c * d)) e
+    ∙ same-times (a / c * c) a d d-pos
 
-equals : (y : Float) (t s : Bool) (w m : ℕ) (e : ℤ) → HasValue y t w 1 → (t ≡ s) ⊎ (w ≡ 0) → eq y (fin s m e) ≡ eqb (w * down e) (m * up e)
-unfolding eq
-equals nan t s w m e v c = absurd v
-equals (inf b) t s w m e v c = absurd v
-equals (fin b n d) t s w m e v c =
-    let p : n * up d * down e ≡ w * down e * down d = ap (λ (x : ℕ). x * down e) (sym (mul-one (n * up d)) ∙ v .1) ∙ mul-right-comm w (down d) (down e) in
-    rw p (signs b s (eqb (w * down e * down d) 0) (eqb (w * down e * down d) (m * up e * down d)) (which c) ∙ same-times (w * down e) (m * up e) (down d) (down-pos d))
-  where
-    which : (t ≡ s) ⊎ (w ≡ 0) → (b ≡ s) ⊎ (eqb (w * down e * down d) 0 ≡ true)
-    which (inl f) = inl (v .0 ∙ f)
-    which (inr z) = inr (eq-eqb (w * down e * down d) 0 (rw z (ap (λ (x : ℕ). x * down d) (zero-mul (down e)) ∙ zero-mul (down d))))
-
--- the float of a whole number with a sign: the sign counts unless the number is 0
-of-whole : (s : Bool) (w : ℕ) → ((t : Bool) → HasValue (round binary64 t w 1) t w 1) → (t : Bool) × HasValue (ofInt binary64 (withSign s w)) t w 1 × ((t ≡ s) ⊎ (w ≡ 0))
-unfolding ofInt
-of-whole false w v = (false, v false, inl refl)
-of-whole true zero v = (false, v false, inr refl)
-of-whole true (suc w) v = (true, v true, inl refl)
-
--- the whole part of a float up to 2^63 is a float
-whole-part : (s : Bool) (m : ℕ) (e : ℤ) → T (fits binary64 (fin s m e)) → m * up e ≤ 2 ^ 63 * down e → (t : Bool) → HasValue (round binary64 t (m * up e / down e) 1) t (m * up e / down e) 1
-whole-part s m (pos k) f l t =
-    let flat : m * 2 ^ k * 2 ^ 1074 ≡ m * 2 ^ (k + 1074) = rw (pow-add 2 k 1074) (mul-assoc m (2 ^ k) (2 ^ 1074)) in
-    let small : m * 2 ^ (k + 1074) < 2 ^ 2098 = lt-of-le-of-lt (le-trans (le-of-eq (sym flat)) (mul-le-mul-right (2 ^ 1074) l)) (lit< tt) in
-    rw (div-one (m * 2 ^ k)) (round-exact binary64 t (m * 2 ^ k) 1 m (k + 1074) (pow-pos 0) (whole-few s m k f) small (flat ∙ sym (mul-one (m * 2 ^ (k + 1074)))))
-whole-part s m (negsuc k) f l t = round-whole binary64 t (m * 1 / 2 ^ suc k) (le-trans (div-le-self (m * 1) (2 ^ suc k)) (le-trans (le-of-eq (mul-one m)) (le-of-lt (fraction-few s m k f .0))))
-
-tested : (s : Bool) (m : ℕ) (e : ℤ) → T (fits binary64 (fin s m e)) → m * up e ≤ 2 ^ 63 * down e → eq (ofInt binary64 (withSign s (m * up e / down e))) (fin s m e) ≡ eqb (m * up e % down e) 0
-tested s m e f l =
-    let w = m * up e / down e in
-    let o = of-whole s w (whole-part s m e f l) in
-    equals (ofInt binary64 (withSign s w)) (o .0) s w m e (o .1) (o .2) ∙ nothing-left (m * up e) (down e)
-
--- ---- the code's tests of the range
-abbrev low : Float
-low = fin true 1 (pos 63)
-
-abbrev high : Float
-high = fin false 1 (pos 63)
-
-low-test : (m : ℕ) (e : ℤ) → le low (fin true m e) ≡ leb (m * up e) (2 ^ 63 * down e)
-unfolding le lt eq
-low-test m e = rw (mul-one (m * up e)) (go (m * up e) (2 ^ 63 * down e) (leb (m * up e) (2 ^ 63 * down e)) refl)
-  where
-    go : (a b : ℕ) (t : Bool) → leb a b ≡ t → (ltb a b || (eqb b a && true)) ≡ t
-    go a b true e = at-most (ltb a b) refl
-      where
-        at-most : (u : Bool) → ltb a b ≡ u → (u || (eqb b a && true)) ≡ true
-        at-most true f = refl
-        at-most false f = rw (eq-eqb b a (omega (arith, leb-true a b e, ltb-false a b f)))
-    go a b false e =
-        let l = leb-false a b e in
-        rw (le-ltb a b (omega arith), ne-eqb b a (λ (z : b ≡ a). omega arith))
-
-high-test : (m : ℕ) (e : ℤ) → lt (fin false m e) high ≡ ltb (m * up e) (2 ^ 63 * down e)
-unfolding lt
-high-test m e = rw (mul-one (m * up e))
-
--- ---- out of range there is no integer
-out : (whole : Bool) (z : ℤ) → (whole ≡ true → 2 ^ 63 ≤ extent z) → none ≡ integerWhere whole z
-out false z h = refl
-out true z h = rw (le-ltb (extent z) (2 ^ 63) (h refl))
-
-pub too-low : (x : Float) → le low x ≡ false → none ≡ integerOf x
-unfolding le lt eq
-too-low nan h = refl
-too-low (inf s) h = refl
-too-low (fin false m e) h = absurd (true≢false (sym (rw (lt-ltb 0 (2 ^ 63 * down e + m * up e * 1) (omega (arith, down-pos e)))) ∙ h))
-too-low (fin true m e) h =
+value-integer : (y : Float) (s : Bool) (a c : ℕ) → 0 < c → HasValue y s a c → integerOf y ≡ integerWhere (eqb (a / c * c) a) (withSign s (a / c))
+value-integer nan s a c p v = absurd v
+value-integer (inf t) s a c p v = absurd v
+value-integer (fin t m e) s a c p v =
     let n = m * up e in
     let d = down e in
-    out (eqb (n % d) 0) (withSign true (n / d))
-    (λ (t : eqb (n % d) 0 ≡ true).
-    far (n / d) (lt-of-mul-lt-mul-right d (lt-of-lt-of-le (leb-false n (2 ^ 63 * d) (sym (low-test m e) ∙ h)) (le-of-eq (sym (eqb-true (n / d * d) n (nothing-left n d ∙ t)))))))
+    rw (v .0, nothing-left n d, same-left n d a c (down-pos e) p (v .1), div-same n d a c (down-pos e) p (v .1))
+
+value-fraction : (y : Float) (s : Bool) (a c : ℕ) → HasValue y s a c → 0 < a → a < c → integerOf y ≡ none
+value-fraction y s a c v p h = value-integer y s a c (omega arith) v ∙ rw (div-eq-of-lt h, zero-mul c, ne-eqb 0 a (omega arith))
+
+value-large : (y : Float) (s : Bool) (a c : ℕ) → HasValue y s a c → 0 < c → 2 ^ 64 * c ≤ a → integerOf y ≡ none
+value-large y s a c v p h = value-integer y s a c p v ∙ out (eqb (a / c * c) a) (far s (a / c) (le-div-iff-mul-le p .1 h))
   where
-    far : (w : ℕ) → 2 ^ 63 < w → 2 ^ 63 ≤ extent (withSign true w)
-    far zero h = omega arith
-    far (suc w) h = omega arith
+    far : (s : Bool) (w : ℕ) → 2 ^ 64 ≤ w → 2 ^ 63 ≤ extent (withSign s w)
+    far true zero h = omega arith
+    far true (suc w) h = omega arith
+    far false w h = omega arith
 
-pub too-high : (x : Float) → lt x high ≡ false → none ≡ integerOf x
-unfolding lt
-too-high nan h = refl
-too-high (inf s) h = refl
-too-high (fin true m e) h = absurd (true≢false (sym (lt-ltb 0 (m * up e * 1 + 2 ^ 63 * down e) (omega (arith, down-pos e))) ∙ h))
-too-high (fin false m e) h = out (eqb (m * up e % down e) 0) (pos (m * up e / down e)) (λ t. le-div-iff-mul-le (down-pos e) .1 (ltb-false (m * up e) (2 ^ 63 * down e) (sym (high-test m e) ∙ h)))
+    out : (whole : Bool) → 2 ^ 63 ≤ extent (withSign s (a / c)) → integerWhere whole (withSign s (a / c)) ≡ none
+    out true g = rw (le-ltb (extent (withSign s (a / c))) (2 ^ 63) g)
+    out false g = refl
 
--- ---- in range the whole part is a 64-bit integer, which `toSigned` gives
-record Fit (s : Bool) (m : ℕ) (e : ℤ) : Type 0 where
-  most : m * up e ≤ 2 ^ 63 * down e
-  small : ltb (extent (withSign s (m * up e / down e))) (2 ^ 63) ≡ true
-  whole : toSigned 63 (fin s m e) ≡ withSign s (m * up e / down e)
+-- ---- by the sign, the exponent x and the fraction t
 
-fit-low : (m : ℕ) (e : ℤ) → le low (fin true m e) ≡ true → Fit true m e
-unfolding toSigned
-fit-low m e h =
-    let l = leb-true (m * up e) (2 ^ 63 * down e) (sym (low-test m e) ∙ h) in
-    let w : m * up e / down e ≤ 2 ^ 63 = div-le-of-le-mul (down e) (le-trans l (le-of-eq (mul-comm (2 ^ 63) (down e)))) in
-    let least : min (m * up e / down e) (2 ^ 63) ≡ m * up e / down e = omega arith in
-    record { most = l; small = lt-ltb (extent (withSign true (m * up e / down e))) (2 ^ 63) (go (m * up e / down e) w); whole = ap (λ (z : ℕ). negℤ (pos z)) least }
-  where
-    go : (w : ℕ) → w ≤ 2 ^ 63 → extent (withSign true w) < 2 ^ 63
-    go zero h = lit< tt
-    go (suc w) h = omega arith
+-- the significand with its leading bit at 2 ^ 63, how far down it goes, and what is left of it
+abbrev pub significand : ℕ → ℕ
+significand t = 2 ^ 63 + t * 2 ^ 11
 
-fit-high : (m : ℕ) (e : ℤ) → lt (fin false m e) high ≡ true → Fit false m e
-unfolding toSigned
-fit-high m e h =
-    let l = ltb-true (m * up e) (2 ^ 63 * down e) (sym (high-test m e) ∙ h) in
-    let w : m * up e / down e < 2 ^ 63 = div-lt-iff-lt-mul (down-pos e) .1 l in
-    let least : min (m * up e / down e) (2 ^ 63 - 1) ≡ m * up e / down e = omega arith in
-    record { most = le-of-lt l; small = lt-ltb (m * up e / down e) (2 ^ 63) w; whole = ap pos least }
+abbrev pub shift : ℕ → ℕ
+shift x = 1086 - x
 
-fitting : (s : Bool) (m : ℕ) (e : ℤ) → T (fits binary64 (fin s m e)) → Fit s m e → integerOf (fin s m e) ≡ cond (eq (ofInt binary64 (toSigned 63 (fin s m e))) (fin s m e)) (some (toSigned 63 (fin s m e))) none
-fitting s m e f k = rw (k .whole, tested s m e f (k .most), k .small) (both (eqb (m * up e % down e) 0))
-  where
-    both : (t : Bool) → cond (t && true) (some (withSign s (m * up e / down e))) none ≡ cond t (some (withSign s (m * up e / down e))) none
-    both true = refl
-    both false = refl
+abbrev pub whole : ℕ → ℕ → ℕ
+whole x t = significand t / 2 ^ shift x
 
-in-range : (x : Float) → T (fits binary64 x) → le low x ≡ true → lt x high ≡ true → integerOf x ≡ cond (eq (ofInt binary64 (toSigned 63 x)) x) (some (toSigned 63 x)) none
-unfolding le lt eq
-in-range nan f a b = absurd (false≢true b)
-in-range (inf true) f a b = absurd (false≢true a)
-in-range (inf false) f a b = absurd (false≢true b)
-in-range (fin true m e) f a b = fitting true m e f (fit-low m e a)
-in-range (fin false m e) f a b = fitting false m e f (fit-high m e b)
+-- whether nothing is lost
+abbrev pub exact : ℕ → ℕ → Bool
+exact x t = eqb (whole x t * 2 ^ shift x) (significand t)
 
--- what the code decides, of the whole part n and the nearest float y to it
-pub decided : (x : Float) (n : ℤ) (y : Float) (t : Bool) → T (fits binary64 x) → le low x ≡ true → lt x high ≡ true → n ≡ toSigned 63 x → y ≡ ofInt binary64 n → eq y x ≡ t → cond t (some n) none ≡ integerOf x
-decided x n y t f a b p q e = ap (λ (u : Bool). cond u (some n) none) (sym e ∙ ap (λ (z : Float). eq z x) q) ∙ rw p (sym (in-range x f a b))
+module _ (s : Bool) (t : ℕ) (t-lt : t < 2 ^ 52) where
+  abbrev m : ℕ
+  m = 2 ^ 52 + t
+
+  m-lt : m < 2 ^ 53
+  m-lt = omega arith
+
+  fields-value : (j : ℕ) → suc j < 2047 → HasValue (ofFields binary64 s (suc j) t) s (m * 2 ^ j) (2 ^ 1074)
+  unfolding ofFields
+  fields-value j h = rw (ne-eqb (suc j) 2047 (omega arith)) (odd-sign 53 s m j 1074)
+
+  below-one : (x : ℕ) → x < 1023 → 0 < x * 2 ^ 52 + t → integerOf (ofFields binary64 s x t) ≡ none
+  unfolding ofFields
+  below-one zero h p =
+      value-fraction (odd 53 s t 0 1074) s (t * 2 ^ 0) (2 ^ 1074) (odd-sign 53 s t 0 1074) (omega arith) (lt-of-lt-of-le (shl-lt 52 0 t-lt) (lit≤ tt))
+  below-one (suc j) h p =
+      let l : 53 + j ≤ 1074 = omega arith in
+      let less : m * 2 ^ j < 2 ^ 1074 = lt-of-lt-of-le (shl-lt 53 j m-lt) (pow-mono l) in
+      value-fraction (ofFields binary64 s (suc j) t) s (m * 2 ^ j) (2 ^ 1074) (fields-value j (omega arith)) (mul-pos (omega arith) (pow-pos j)) less
+
+  in-range : (x : ℕ) → 1023 ≤ x → x ≤ 1086 → integerOf (ofFields binary64 s x t) ≡ integerWhere (exact x t) (withSign s (whole x t))
+  in-range zero l h = absurd (omega arith)
+  in-range (suc j) l h =
+      let y = ofFields binary64 s (suc j) t in
+      let u = 2 ^ shift (suc j) in
+      let raised : significand t * 2 ^ 1074 ≡ m * 2 ^ 11 * 2 ^ 1074 = ap (λ (n : ℕ). n * 2 ^ 1074) (omega arith) in
+      let same = raised ∙ shifted m 11 1074 j (shift (suc j)) (omega arith) in
+      let v = rescale y s (m * 2 ^ j) (2 ^ 1074) (significand t) u (pow-pos 1074) same (fields-value j (omega arith)) in
+      value-integer y s (significand t) u (pow-pos (shift (suc j))) v
+
+  above : (x : ℕ) → 1086 < x → integerOf (ofFields binary64 s x t) ≡ none
+  unfolding ofFields
+  above zero h = absurd (omega arith)
+  above (suc j) h = go (eqb (suc j) 2047) (eqb t 0)
+    where
+      l : 1138 ≤ 52 + j
+      l = omega arith
+
+      most : 2 ^ 64 * 2 ^ 1074 ≤ m * 2 ^ j
+      most = le-trans (pow-mono l) (rw (pow-add 2 52 j) (mul-le-mul-right (2 ^ j) (le-add-right (2 ^ 52) t)))
+
+      go : (a b : Bool) → integerOf (cond a (cond b (inf s) nan) (odd 53 s m j 1074)) ≡ none
+      go true true = refl
+      go true false = refl
+      go false b = value-large (odd 53 s m j 1074) s (m * 2 ^ j) (2 ^ 1074) (odd-sign 53 s m j 1074) (pow-pos 1074) most
+
+zero-integer : (s : Bool) → some (pos 0) ≡ integerOf (ofFields binary64 s 0 0)
+unfolding ofFields
+zero-integer true = refl
+zero-integer false = refl
+
+-- ---- by the bits
+module _ (b : ℕ) where
+  abbrev sign : Bool
+  sign = leb (2 ^ 63) b
+
+  abbrev x : ℕ
+  x = b % 2 ^ 63 / 2 ^ 52
+
+  abbrev t : ℕ
+  t = b % 2 ^ 52
+
+  t-lt : t < 2 ^ 52
+  t-lt = mod-lt b (pow-pos 52)
+
+  pub at-zero : b % 2 ^ 63 ≡ 0 → some (pos 0) ≡ asInteger (float b)
+  unfolding ofBits
+  at-zero z = let n : t ≡ 0 = omega arith in rw (z, n) (zero-integer sign)
+
+  pub at-fraction : (b % 2 ^ 63 ≡ 0 → ⊥) → x < 1023 → none ≡ asInteger (float b)
+  unfolding ofBits
+  at-fraction z h = sym (below-one sign t t-lt x h (omega arith))
+
+  pub at-large : 1086 < x → none ≡ asInteger (float b)
+  unfolding ofBits
+  at-large h = sym (above sign t t-lt x h)
+
+  -- the way back up stays in 64 bits
+  exact-is : eqb (whole x t * 2 ^ shift x % 2 ^ 64) (significand t) ≡ exact x t
+  exact-is =
+      let l : whole x t * 2 ^ shift x < 2 ^ 64 = lt-of-le-of-lt (div-mul-le-self (significand t) (2 ^ shift x)) (omega (arith, t-lt)) in
+      rw (mod-eq-of-lt l)
+
+  -- by the code's test
+  pub at-whole : 1023 ≤ x → x ≤ 1086 → {p : Bool} → eqb (whole x t * 2 ^ shift x % 2 ^ 64) (significand t) ≡ p → integerWhere p (withSign sign (whole x t)) ≡ asInteger (float b)
+  unfolding ofBits
+  at-whole l h e = ap (λ (p : Bool). integerWhere p (withSign sign (whole x t))) (sym e ∙ exact-is) ∙ sym (in-range sign t t-lt x l h)
+
+  pub whole-pos : 1023 ≤ x → 0 < whole x t
+  whole-pos l =
+      let e : shift x ≤ 63 = omega arith in
+      let h : 2 ^ shift x ≤ significand t = le-trans (pow-mono e) (le-add-right (2 ^ 63) (t * 2 ^ 11)) in
+      le-div-iff-mul-le (pow-pos (shift x)) .1 (rw (one-mul (2 ^ shift x)) h)

@@ -1,10 +1,9 @@
--- A fraction rounds to a float of its sign, which is no NaN; and the bits that are a NaN's.
+-- A fraction rounds to a float of its sign; and the bits that are a NaN's.
 use mathlib.Core.Path.{_≡_, refl, sym, _∙_}
-use mathlib.Core.Bool.{Bool, true, false, not, cond, false≢true}
+use mathlib.Core.Bool.{Bool, true, false, cond, false≢true}
 use Prim.Native.Nat.{ℕ, zero, suc, _*_, _^_, _-_, _/_}
-use lib.IntN.{ℤ, pos, negsuc}
 use lib.Dec.{T, ltb}
-use lib.Ieee.{Float, nan, inf, fin, binary64, round, ofInt, isNan, nanBits, ofBits, size, units, odd}
+use lib.Ieee.{Float, nan, inf, fin, binary64, round, isNan, nanBits, ofBits, size, units, odd}
 use lib.Ieee.Bits.{is-true, nanBits-is}
 use lib.Ieee.Nearest.{closest}
 
@@ -30,18 +29,6 @@ units-sign s q k = go (ltb (q * 2 ^ k) (2 ^ 2098))
 pub round-sign : (s : Bool) (a c : ℕ) → HasSign s (round binary64 s a c)
 unfolding round
 round-sign s a c = units-sign s (closest (a * 2 ^ 1074) (c * 2 ^ (size (a * 2 ^ 1074 / c) - 53))) (size (a * 2 ^ 1074 / c) - 53)
-
-no-nan : (s : Bool) (x : Float) → HasSign s x → T (not (isNan x))
-unfolding isNan
-no-nan s nan h = absurd h
-no-nan s (inf t) h = tt
-no-nan s (fin t m e) h = tt
-
--- the float of an integer is no NaN
-pub ofInt-no-nan : (z : ℤ) → T (not (isNan (ofInt binary64 z)))
-unfolding ofInt
-ofInt-no-nan (pos n) = no-nan false (round binary64 false n 1) (round-sign false n 1)
-ofInt-no-nan (negsuc n) = no-nan true (round binary64 true (suc n) 1) (round-sign true (suc n) 1)
 
 -- the bits of a NaN are a NaN's
 is-nan : (x : Float) → isNan x ≡ true → x ≡ nan

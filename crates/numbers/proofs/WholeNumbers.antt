@@ -3,7 +3,7 @@ use mathlib.Core.Path.{_≡_, refl, sym, ap, _∙_}
 use mathlib.Core.Logic.{_⊎_, inl, inr}
 use mathlib.Core.Bool.{Bool, true, false, not, _&&_, cond, true≢false}
 use Prim.Native.Nat.{ℕ, zero, suc, _+_, _-_, _*_, _/_, _%_, _^_, _≤_, _<_, min, compare}
-use native.Mathlib.Nat.{le-trans, le-of-eq, le-of-lt, lt-of-lt-of-le, lt-of-le-of-lt, lt-of-not-le, lt-irrefl, mul-comm, mul-assoc, mul-right-comm, mul-one, mul-pos, mul-sub, mul-le-mul-right, mul-le-mul-left, mul-lt-mul-of-pos-right, eq-of-mul-eq-mul-right, div-one, mod-one, mod-le, div-lt-iff-lt-mul, le-div-iff-mul-le}
+use native.Mathlib.Nat.{le-trans, le-of-eq, le-of-lt, lt-of-lt-of-le, lt-of-le-of-lt, lt-of-not-le, lt-irrefl, mul-comm, mul-assoc, mul-right-comm, mul-one, mul-pos, mul-sub, mul-le-mul-right, mul-le-mul-left, mul-lt-mul-of-pos-right, div-one, mod-one, mod-le, div-lt-iff-lt-mul, le-div-iff-mul-le}
 use native.Mathlib.Omega.{arith}
 use lib.IntN.{ℤ, pos, negsuc}
 use lib.Dec.{T, leb, ltb, leb→le, nleb→lt, lit≤, lit<}
@@ -15,6 +15,7 @@ use lib.Ieee.Fits.{down-pos, nearest-le}
 use lib.Ieee.Exact.{HasValue, round-exact}
 use lib.Ieee.Nearest.{closest, closest-same, div-same}
 use lib.Ieee.Scale.{grid, round-val}
+use Rattle.single.proofs.Packing.{rescale}
 use Rattle.definition.specs.Values.{cut, cutFloat, wrapped}
 use Rattle.numbers.specs.WholeNumbers.{wrappedWhole}
 use Rattle.numbers.proofs.Digits.{whole-few, fraction-few}
@@ -39,16 +40,6 @@ coarse s m (pos k) f = coarse-whole m k (whole-few s m k f)
 coarse s m (negsuc k) f =
     let h = fraction-few s m k f .0 in
     inl (rw (left-fraction m k h) (le-trans (le-of-lt h) (le-trans (lit≤ {m = 2 ^ 53} {n = 2 ^ 63 * 1} tt) (mul-le-mul-left (2 ^ 63) (pow-pos (suc k))))))
-
--- ---- from one fraction to another of the same size
-rescale : (x : Float) (s : Bool) (w l a c : ℕ) → 0 < l → a * l ≡ w * c → HasValue x s w l → HasValue x s a c
-rescale nan s w l a c p h v = v
-rescale (inf t) s w l a c p h v = v
-rescale (fin t m e) s w l a c p h v = (
-  v .0,
-  eq-of-mul-eq-mul-right l p (m * up e * c) (a * down e)
-      (mul-right-comm (m * up e) c l ∙ ap (λ (x : ℕ). x * c) (v .1) ∙ mul-right-comm w (down e) c ∙ ap (λ (x : ℕ). x * down e) (sym h) ∙ mul-right-comm a l (down e)),
-)
 
 -- ---- the sum, rounded to a multiple of 2048
 module _ (r d : ℕ) (D : 0 < d) (l : r < 2 ^ 64 * d) (some-left : 0 < r) where

@@ -1,7 +1,7 @@
--- A fraction to the nearest whole number, a tie to the even one, by how twice the remainder compares with the divisor. Assumes nothing.
+-- A fraction to the nearest whole number, a tie to the even one, by how twice the remainder compares with the divisor, or by the divisor's half. Assumes nothing.
 use mathlib.Core.Path.{_≡_, refl, sym, ap, _∙_}
-use Prim.Native.Nat.{ℕ, _+_, _*_, _/_, _%_, _<_, compare, Ordering, Ordering·lt, Ordering·eq, Ordering·gt}
-use native.Mathlib.Nat.{le-of-lt, le-of-eq, div-eq-of-lt, mod-eq-of-lt}
+use Prim.Native.Nat.{ℕ, _+_, _*_, _/_, _%_, _≤_, _<_, compare, Ordering, Ordering·lt, Ordering·eq, Ordering·gt}
+use native.Mathlib.Nat.{le-of-lt, le-of-eq, div-eq-of-lt, div-add-mod', div-div-eq-div-mul, mod-eq-of-lt, mod-lt}
 use native.Mathlib.Numerals.{add-one}
 use native.Mathlib.Omega.{arith}
 use lib.Dec.{isLe, isEq}
@@ -31,13 +31,13 @@ compare-gt : {a b : ℕ} → b < a → compare a b ≡ Ordering·gt
 compare-gt {a} {b} h = by-tests (compare a b) Ordering·gt (lt-leb a b h) (ne-eqb a b (omega arith))
 
 module _ (n u : ℕ) where
-  pub closest-down : n % u * 2 < u → closest n u ≡ n / u
+  closest-down : n % u * 2 < u → closest n u ≡ n / u
   closest-down h = ap (nearest (n / u)) (compare-lt h)
 
-  pub closest-up : u < n % u * 2 → closest n u ≡ n / u + 1
+  closest-up : u < n % u * 2 → closest n u ≡ n / u + 1
   closest-up h = ap (nearest (n / u)) (compare-gt h) ∙ sym (add-one (n / u))
 
-  pub closest-even : n % u * 2 ≡ u → closest n u ≡ n / u + n / u % 2
+  closest-even : n % u * 2 ≡ u → closest n u ≡ n / u + n / u % 2
   closest-even h = ap (nearest (n / u)) (compare-eq h)
 
   -- less than half
@@ -45,3 +45,23 @@ module _ (n u : ℕ) where
   closest-none h =
       let l : n < u = omega arith in
       closest-down (rw (mod-eq-of-lt l) h) ∙ div-eq-of-lt l
+
+-- the unit as h * 2, by its half h: whether n / h is odd, and what n leaves of h
+module _ (n h : ℕ) (h-pos : 0 < h) where
+  rest : n % (h * 2) ≡ n / h % 2 * h + n % h
+  rest =
+      let whole = ap (λ (q : ℕ). q * (h * 2)) (div-div-eq-div-mul n h 2) in
+      let parity = ap (λ (q : ℕ). q * h) (div-add-mod' (n / h) 2) in
+      omega (arith, div-add-mod' n h, div-add-mod' n (h * 2), whole, parity)
+
+  pub half-down : n / h % 2 ≡ 0 → closest n (h * 2) ≡ n / (h * 2)
+  half-down z = closest-down n (h * 2) (omega (arith, rw z at rest, mod-lt n h-pos))
+
+  odd : (n / h % 2 ≡ 0 → ⊥) → n % (h * 2) ≡ h + n % h
+  odd z = let o : n / h % 2 ≡ 1 = omega arith in rest ∙ rw o (omega arith)
+
+  pub half-up : (n / h % 2 ≡ 0 → ⊥) → 0 < n % h → closest n (h * 2) ≡ n / (h * 2) + 1
+  half-up z l = closest-up n (h * 2) (omega (arith, odd z))
+
+  pub half-even : (n / h % 2 ≡ 0 → ⊥) → n % h ≤ 0 → closest n (h * 2) ≡ n / (h * 2) + n / (h * 2) % 2
+  half-even z l = closest-even n (h * 2) (omega (arith, odd z))

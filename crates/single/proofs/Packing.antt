@@ -4,12 +4,12 @@ use mathlib.Core.Path.{_≡_, sym, ap, _∙_}
 use mathlib.Core.Logic.{_⊎_, inl, inr, ⊎-map}
 use mathlib.Core.Bool.{Bool, false, cond}
 use Prim.Native.Nat.{ℕ, suc, _+_, _-_, _*_, _/_, _%_, _^_, _≤_, _<_, compare}
-use native.Mathlib.Nat.{le-refl, le-trans, lt-of-lt-of-le, lt-of-not-le, not-le-of-lt, eq-or-lt-of-le, zero-add, add-assoc, add-mul, mul-assoc, mul-comm, mul-pos, mul-le-mul-right, mul-div-cancel, div-div-eq-div-mul, div-lt-iff-lt-mul, le-div-iff-mul-le, suc-mul, pow-succ'}
+use native.Mathlib.Nat.{le-refl, le-trans, lt-of-lt-of-le, lt-of-not-le, not-le-of-lt, eq-or-lt-of-le, zero-add, add-assoc, add-mul, mul-assoc, mul-comm, mul-right-comm, mul-pos, mul-le-mul-right, eq-of-mul-eq-mul-right, mul-div-cancel, div-div-eq-div-mul, div-lt-iff-lt-mul, le-div-iff-mul-le, suc-mul, pow-succ'}
 use native.Mathlib.Omega.{arith}
 use lib.Dec.{ltb}
 use lib.Arith.{le→nltb}
 use lib.Pow.{pow-add, pow-pos, pow-mono, pow-lt, shl-lt}
-use lib.Ieee.{Float, nan, inf, fin, Format, prec, emax, low, hid, ones, top, down, size, odd, units, round, toBits}
+use lib.Ieee.{Float, nan, inf, fin, Format, prec, emax, low, hid, ones, top, up, down, size, odd, units, round, toBits}
 use lib.Ieee.Digits.{size-lt, size-le}
 use lib.Ieee.Fits.{two, nearest-le, round-is, down-pos}
 use lib.Ieee.Bits.{cond-no}
@@ -57,6 +57,17 @@ module _ (p : ℕ) (p-ge : 2 ≤ p) where
       go (inr l) = written-kept k q lo l
 
 -- ---- values
+
+-- from one fraction to another of the same size
+pub rescale : (x : Float) (s : Bool) (w l a c : ℕ) → 0 < l → a * l ≡ w * c → HasValue x s w l → HasValue x s a c
+rescale nan s w l a c p h v = v
+rescale (inf t) s w l a c p h v = v
+rescale (fin t m e) s w l a c p h v = (
+  v .0,
+  eq-of-mul-eq-mul-right l p (m * up e * c) (a * down e)
+      (mul-right-comm (m * up e) c l ∙ ap (λ (x : ℕ). x * c) (v .1) ∙ mul-right-comm w (down e) c ∙ ap (λ (x : ℕ). x * down e) (sym h) ∙ mul-right-comm a l (down e)),
+)
+
 pub bits-of : (f : Format) (x : Float) (s : Bool) (a : ℕ) → HasValue x s a (2 ^ low f) → toBits f x ≡ cond s (top f) 0 + (size a - prec f) * hid f + a / 2 ^ (size a - prec f)
 unfolding toBits
 bits-of f nan s a v = absurd v

@@ -1,21 +1,22 @@
 -- An f32's pattern as an f64's, exactly: the least f32 is 2 ^ 925 times the least f64, a normal f32's significand gets 29 zeros at its end, and a subnormal's is
 -- shifted up until its leading bit stands where an f64 has it. Assumes nothing.
-use mathlib.Core.Path.{_≡_, refl, sym, ap, _∙_, subst}
+use mathlib.Core.Path.{_≡_, refl, sym, ap, _∙_}
 use mathlib.Core.Logic.{_⊎_, inl, inr}
 use mathlib.Core.Bool.{false}
 use Prim.Native.Nat.{ℕ, zero, suc, _+_, _-_, _*_, _/_, _%_, _^_, _≤_, _<_}
-use native.Mathlib.Nat.{le-of-lt, lt-irrefl, lt-of-lt-of-le, lt-of-le-of-lt, lt-of-not-le, mul-assoc, mul-right-comm, mul-le-mul-right, mod-lt, mod-eq-of-lt, div-eq-of-lt}
+use native.Mathlib.Nat.{le-of-lt, lt-irrefl, lt-of-lt-of-le, lt-of-le-of-lt, lt-of-not-le, mul-assoc, mod-lt, mod-eq-of-lt, div-eq-of-lt}
 use native.Mathlib.Omega.{arith}
 use lib.Dec.{lit≤, lit<}
 use lib.Pow.{pow-add, pow-pos, pow-mono, shl-lt}
-use lib.Count.{leadingZeros, leading-top}
+use lib.Count.{leadingZeros}
 use borrow.Author.Tests.{ne-eqb}
-use lib.Ieee.{Float, nan, inf, fin, binary32, binary64, up, down, odd, ofFields, ofBits, toBits}
+use lib.Ieee.{binary32, binary64, odd, ofFields, ofBits, toBits}
 use lib.Ieee.Fits.{fits-widens}
 use lib.Ieee.Bits.{ofBits-fits}
-use lib.Ieee.Exact.{HasValue, odd-sign}
+use lib.Ieee.Exact.{odd-sign}
 use Rattle.single.specs.Single.{fromSingle}
-use Rattle.single.proofs.Packing.{value-bits}
+use Rattle.single.proofs.Leading.{Topped, topped}
+use Rattle.single.proofs.Packing.{rescale, value-bits}
 use Rattle.single.proofs.Patterns.{Signed, inf-signed, odd-signed, nanFields, by-fields, converted-lt, at-nan, at-number, sign-apart}
 
 -- ---- patterns: their width and their sign
@@ -34,18 +35,13 @@ unfolding fromSingle
 double-sign = sign-apart binary32 binary64 payload (λ v. v) (λ n. omega arith) fields-signed
 
 -- ---- m * 2 ^ j times the least f32, which is q * 2 ^ k times the least f64
-rescaled : (v : Float) (a : ℕ) → HasValue v false a (2 ^ 149) → HasValue v false (a * 2 ^ 925) (2 ^ 1074)
-rescaled nan a h = h
-rescaled (inf t) a h = h
-rescaled (fin t m e) a h =
-    (h .0, ap (λ (x : ℕ). m * up e * x) (pow-add 2 149 925) ∙ sym (mul-assoc (m * up e) (2 ^ 149) (2 ^ 925)) ∙ ap (λ (x : ℕ). x * 2 ^ 925) (h .1) ∙ mul-right-comm a (down e) (2 ^ 925))
-
 odd-bits : (m j q k : ℕ) → m * 2 ^ j * 2 ^ 925 ≡ q * 2 ^ k → (k ≡ 0) ⊎ (2 ^ 52 ≤ q) → q ≤ 2 ^ 53 → toBits binary64 (odd 24 false m j 149) ≡ k * 2 ^ 52 + q
 odd-bits m j q k e =
     let v = odd 24 false m j 149 in
-    value-bits binary64 v q k (subst (λ (a : ℕ). HasValue v false a (2 ^ 1074)) e (rescaled v (m * 2 ^ j) (odd-sign 24 false m j 149)))
+    let same : q * 2 ^ k * 2 ^ 149 ≡ m * 2 ^ j * 2 ^ 1074 = ap (λ (a : ℕ). a * 2 ^ 149) (sym e) ∙ mul-assoc (m * 2 ^ j) (2 ^ 925) (2 ^ 149) in
+    value-bits binary64 v q k (rescale v false (m * 2 ^ j) (2 ^ 149) (q * 2 ^ k) (2 ^ 1074) (pow-pos 149) same (odd-sign 24 false m j 149))
 
-shifted : (m j h sh k : ℕ) → j + h ≡ sh + k → m * 2 ^ j * 2 ^ h ≡ m * 2 ^ sh * 2 ^ k
+pub shifted : (m j h sh k : ℕ) → j + h ≡ sh + k → m * 2 ^ j * 2 ^ h ≡ m * 2 ^ sh * 2 ^ k
 shifted m j h sh k e = simp (mul-assoc, ← pow-add, e)
 
 -- ---- the significand c of a subnormal f32, with z zeros above it in 64 bits, shifted up
@@ -56,21 +52,16 @@ pub record Raised (c z : ℕ) : Type 0 where
   pub fits : c * 2 ^ (z - 11) < 2 ^ 53
 
 pub raised : (c : ℕ) → 0 < c → c < 2 ^ 23 → Raised c (leadingZeros 64 c)
-raised c c-pos c-lt =
-    let l = leading-top 64 c c-pos (lt-of-lt-of-le c-lt (lit≤ tt)) in
-    go (leadingZeros 64 c) (l .0) (l .1) (l .2) (l .3)
+raised c c-pos c-lt = go (leadingZeros 64 c) (topped c c-pos (lt-of-lt-of-le c-lt (lit≤ tt)))
   where
-    go : (z j : ℕ) → z + suc j ≡ 64 → 2 ^ j ≤ c → c < 2 ^ suc j → Raised c z
-    go z j e lo hi =
-        let j-lt : j < 23 = lt-of-not-le (λ (g : 23 ≤ j). lt-irrefl (2 ^ j) (lt-of-lt-of-le (lt-of-le-of-lt lo c-lt) (pow-mono g))) in
-        let at-52 : 52 ≡ j + (z - 11) = omega arith in
-        let at-53 : suc j + (z - 11) ≤ 53 = omega arith in
-        record {
-          zeros-ge = omega arith;
-          zeros-lt = omega arith;
-          leads = subst (λ (x : ℕ). 2 ^ x ≤ c * 2 ^ (z - 11)) (sym at-52) (rw pow-add (mul-le-mul-right (2 ^ (z - 11)) lo));
-          fits = lt-of-lt-of-le (shl-lt (suc j) (z - 11) hi) (pow-mono at-53);
-        }
+    few : (z : ℕ) → z ≤ 40 → c * 2 ^ z < 2 ^ 63
+    few z h = let l : 23 + z ≤ 63 = omega arith in lt-of-lt-of-le (shl-lt 23 z c-lt) (pow-mono l)
+
+    go : (z : ℕ) → Topped c z → Raised c z
+    go z t =
+        let ge : 41 ≤ z = lt-of-not-le (λ (h : z ≤ 40). lt-irrefl (2 ^ 63) (lt-of-le-of-lt (t .leads) (few z h))) in
+        let e : c * 2 ^ 0 * 2 ^ z ≡ c * 2 ^ (z - 11) * 2 ^ 11 = shifted c 0 z (z - 11) 11 (omega arith) in
+        record { zeros-ge = ge; zeros-lt = t .zeros-lt; leads = omega arith; fits = omega arith }
 
 -- ---- by the pattern c, without its sign
 module _ (c : ℕ) (c-lt : c < 2 ^ 31) where

@@ -1,9 +1,8 @@
 -- `as_integer` meets its contract: by the kind of the value.
-use mathlib.Core.Path.{sym, ap, subst}
+use mathlib.Core.Path.{ap}
 use mathlib.Core.Option.{some}
 use lib.Dec.{T}
-use lib.Ieee.{binary64, fits, nanBits}
-use lib.Ieee.Bits.{ofBits-toBits}
+use lib.Ieee.{binary64, nanBits}
 use Rattle.numbers.proofs.Signs.{nan-of-bits}
 use borrow.Author.Needs.{needs}
 use Rattle.numbers.proofs.as_integer.Statement.{statement}
@@ -14,6 +13,9 @@ enum-known-v c = search needs
 
 enum-known-v-2 : tie.Need-enum-known-v-2
 enum-known-v-2 c = search needs
+
+float-to-bits-integer-of : tie.Need-float-to-bits-integer-of
+float-to-bits-integer-of c = rw (c .before .v2 .given .1) at (c .before .before .before .pre)
 
 integer-of-requires : tie.Need-integer-of-requires
 integer-of-requires c κs = search needs
@@ -31,10 +33,7 @@ returns : tie.Need-returns
 returns c l = rw (c .before .v .given .1) (ap some (search needs))
 
 returns-2 : tie.Need-returns-2
-returns-2 c l =
-    let x = c .before .before .v2 .given .0 .0 in
-    let f : T (fits binary64 x) = subst T (sym (c .before .known-told2 .given .0 .1)) tt in
-    rw (c .before .before .v2 .given .1, ofBits-toBits binary64 x f) (c .integer-of .ensures)
+returns-2 c l = rw (c .before .before .v2 .given .1) (c .integer-of .ensures)
 
 returns-3 : tie.Need-returns-3
 returns-3 c l =
@@ -53,6 +52,7 @@ as-integer-spec =
     (tie.spec
     enum-known-v
     enum-known-v-2
+    float-to-bits-integer-of
     integer-of-requires
     enum-told
     enum-told-2

@@ -1,28 +1,59 @@
--- `bits_of` meets its contract: the nearest float is no NaN, so it has bits.
-use mathlib.Core.Path.{_≡_, _∙_, sym, ap, subst}
-use mathlib.Core.Bool.{not}
+-- `bits_of` meets its contract: the sign goes apart, and the sum is below 2 ^ 64 as what it is equal to.
+use mathlib.Core.Path.{_≡_, sym, ap, _∙_}
 use mathlib.Core.Option.{some}
-use lib.Dec.{T}
-use lib.Ieee.{Float, binary64, isNan, ofInt, toBits}
-use mir.Syntax.{w64}
-use mir.ValLaws.{toZ-ofZ}
+use Prim.Native.Nat.{ℕ, suc, _+_, _^_}
+use native.Mathlib.Numerals.{add-one}
+use native.Mathlib.Omega.{arith}
+use lib.IntN.{pos}
+use mir.Facts.{toZ-ofZ}
 use borrow.Author.Needs.{needs}
-use Rattle.numbers.proofs.Signs.{ofInt-no-nan}
+use Rattle.coder.proofs.Twos.{extent-fits, negative, positive}
+use Rattle.definition.specs.Bytes.{extent}
+use Rattle.numbers.proofs.Nearest.{bits, bits-lt, bits-negative}
 use Rattle.numbers.proofs.bits_of.Statement.{statement}
 use Rattle.numbers.proofs.bits_of.Tie as tie
 
-nearest-i64-to-f64-requires : tie.Need-nearest-i64-to-f64-requires
-nearest-i64-to-f64-requires c κs = search needs
-
 -- a signed number that goes to a call is read back from its bits
-answer : (c : tie.After-nearest-i64-to-f64) → c .nearest-i64-to-f64 .result ≡ ofInt binary64 (c .before .args .n)
-answer c = c .nearest-i64-to-f64 .ensures ∙ ap (ofInt binary64) (toZ-ofZ w64 (c .before .args .n) (c .before .fits .n))
+got : (c : tie.After-extent) → c .extent .result ≡ extent (c .before .before .args .n)
+got c = c .extent .ensures ∙ ap extent (toZ-ofZ (c .before .before .fits .n))
 
-float-to-bits-result : tie.Need-float-to-bits-result
-float-to-bits-result c = subst (λ (x : Float). T (not (isNan x))) (sym (answer c)) (ofInt-no-nan (c .before .args .n))
+extent-requires : tie.Need-extent-requires
+extent-requires c κs = search needs
+
+add-rounded : tie.Need-add-rounded
+add-rounded c = let s = c .before .before in omega (arith, got c, extent-fits (s .args .n) (s .fits .n))
+
+rounded-requires : tie.Need-rounded-requires
+rounded-requires c κs = search needs
+
+sum : (c : tie.After-rounded) → 2 ^ 63 + c .rounded .result ≡ bits (c .before .before .before .args .n)
+sum c =
+    let s = c .before .before .before in
+    let e = extent (s .args .n) in
+    let m : c .before .extent .result + 1 ≡ suc e = ap (λ (n : ℕ). n + 1) (got (c .before)) ∙ add-one e in
+    let r : c .rounded .result ≡ bits (pos (suc e)) = c .rounded .ensures ∙ ap (λ (n : ℕ). bits (pos n)) m in
+    ap (λ (b : ℕ). 2 ^ 63 + b) r ∙ bits-negative e ∙ sym (ap bits (negative (s .args .n) (s .fits .n) (c .before .before .if1 .taken)))
+
+add-result : tie.Need-add-result
+add-result c = record { fits = rw (sum c) (bits-lt (c .before .before .before .args .n)) }
+
+extent-requires-2 : tie.Need-extent-requires-2
+extent-requires-2 c κs = search needs
+
+rounded-requires-2 : tie.Need-rounded-requires-2
+rounded-requires-2 c κs = search needs
 
 returns : tie.Need-returns
-returns c = ap (λ x. some (toBits binary64 x)) (answer c)
+returns c = ap some (sum c)
+
+returns-2 : tie.Need-returns-2
+returns-2 c =
+    let s = c .before .before .before in
+    ap some
+    (c .rounded2 .ensures ∙ ap (λ (m : ℕ). bits (pos m)) (c .before .extent2 .ensures ∙ ap extent (toZ-ofZ (s .fits .n)))
+    ∙ sym (ap bits (positive (s .args .n) (s .fits .n) (c .before .before .if1 .left))))
 
 pub bits-of-spec : {M : Type 1} → statement M
-bits-of-spec = tie.close (tie.spec nearest-i64-to-f64-requires float-to-bits-result returns)
+bits-of-spec =
+    tie.close
+    (tie.spec extent-requires add-rounded rounded-requires add-result extent-requires-2 rounded-requires-2 returns returns-2)

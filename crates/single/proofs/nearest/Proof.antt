@@ -1,57 +1,72 @@
--- `single::nearest` meets its contract: twice the remainder is compared with the unit, 2 ^ k, as in `proofs/Closest.antt`. Assumes nothing.
+-- `single::nearest` meets its contract: the unit, 2 ^ k, goes by its half, as in `proofs/Closest.antt`. Assumes nothing.
 use mathlib.Core.Path.{_≡_, sym, ap, _∙_}
-use Prim.Native.Nat.{ℕ, _*_, _%_, _^_, _<_}
-use native.Mathlib.Nat.{le-antisymm, div-le-self, mod-le, mod-eq-of-lt, one-mul, lt-of-lt-of-le}
+use Prim.Native.Nat.{ℕ, suc, _-_, _*_, _/_, _%_, _^_, _<_}
+use native.Mathlib.Nat.{one-mul, mul-comm, mul-pos, pow-succ', mod-eq-of-lt, div-lt-iff-lt-mul}
 use native.Mathlib.Omega.{arith}
-use lib.Dec.{lit≤}
 use lib.Pow.{pow-pos, pow-lt}
 use lib.Ieee.Nearest.{closest}
 use borrow.Author.Needs.{needs}
-use Rattle.single.proofs.Closest.{closest-down, closest-up, closest-even}
+use Rattle.single.proofs.Closest.{half-down, half-up, half-even}
 use Rattle.single.proofs.nearest.Statement.{statement}
 use Rattle.single.proofs.nearest.Tie as tie
 
--- the unit as the machine has it
-abbrev unit : ℕ → ℕ
-unit k = 1 * 2 ^ k % 2 ^ 64
+-- the half as the machine has it
+abbrev half : tie.Start → ℕ
+half s = 1 * 2 ^ (s .args .k - 1) % 2 ^ 64
 
-unit-is : (k : ℕ) → k < 63 → unit k ≡ 2 ^ k
-unit-is k h = rw one-mul (mod-eq-of-lt (lt-of-lt-of-le (pow-lt h) (lit≤ tt)))
+module _ (s : tie.Start) where
+  half-is : half s ≡ 2 ^ (s .args .k - 1)
+  half-is = let l : s .args .k - 1 < 64 = omega arith in rw one-mul (mod-eq-of-lt (pow-lt l))
 
-unit-pos : (k : ℕ) → k < 63 → 0 < unit k
-unit-pos k h = rw (unit-is k h) (pow-pos k)
+  positive : 0 < half s
+  positive = rw half-is (pow-pos (s .args .k - 1))
 
-by-unit : (n k r : ℕ) → k < 63 → closest n (unit k) ≡ r → r ≡ closest n (2 ^ k)
-by-unit n k r h e = sym e ∙ ap (closest n) (unit-is k h)
+  twice : half s * 2 ≡ 2 ^ s .args .k
+  twice =
+      let e : suc (s .args .k - 1) ≡ s .args .k = omega arith in
+      ap (λ (h : ℕ). h * 2) half-is ∙ mul-comm (2 ^ (s .args .k - 1)) 2 ∙ sym (pow-succ' 2 (s .args .k - 1)) ∙ ap (λ (x : ℕ). 2 ^ x) e
 
-shl-unit : tie.Need-shl-unit
-shl-unit c = search needs
+  gives : (r : ℕ) → closest (s .args .n) (half s * 2) ≡ r → r ≡ closest (s .args .n) (2 ^ s .args .k)
+  gives r e = sym e ∙ ap (closest (s .args .n)) twice
+
+  -- the quotient leaves room for one more
+  room : s .args .n / (half s * 2) < 2 ^ 63
+  room = let p = positive in div-lt-iff-lt-mul {k = half s * 2} (omega arith) .1 (omega (arith, s .fits .n .fits))
+
+sub-half : tie.Need-sub-half
+sub-half c = search needs
+
+shl-half : tie.Need-shl-half
+shl-half c = search needs
+
+mul-whole : tie.Need-mul-whole
+mul-whole c = record { fits = rw (twice c) (pow-lt (c .pre .1)) }
 
 div-whole : tie.Need-div-whole
-div-whole c = unit-pos (c .args .k) (c .pre .1)
+div-whole c = mul-pos (positive c) (pow-pos 1)
 
-rem-twice : tie.Need-rem-twice
-rem-twice c = unit-pos (c .args .k) (c .pre .1)
-
-mul-twice : tie.Need-mul-twice
-mul-twice c = omega (arith, mod-le (c .args .n) (unit (c .args .k)))
+div-if1 : tie.Need-div-if1
+div-if1 = positive
 
 returns : tie.Need-returns
-returns c = let s = c .before in by-unit (s .args .n) (s .args .k) _ (s .pre .1) (closest-down _ _ (c .if1 .taken))
+returns c = gives (c .before) _ (half-down _ _ (positive (c .before)) (c .if1 .taken))
+
+rem-if2 : tie.Need-rem-if2
+rem-if2 c = positive (c .before)
 
 add-result : tie.Need-add-result
-add-result c = let s = c .before .before in omega (arith, div-le-self (s .args .n) (unit (s .args .k)))
+add-result c = omega (arith, room (c .before .before))
 
 returns-2 : tie.Need-returns-2
-returns-2 c = let s = c .before .before in by-unit (s .args .n) (s .args .k) _ (s .pre .1) (closest-up _ _ (c .if2 .taken))
+returns-2 c = let s = c .before .before in gives s _ (half-up _ _ (positive s) (c .before .if1 .left) (c .if2 .taken))
 
 add-result-2 : tie.Need-add-result-2
-add-result-2 c = let s = c .before .before in omega (arith, div-le-self (s .args .n) (unit (s .args .k)))
+add-result-2 c = omega (arith, room (c .before .before))
 
 returns-3 : tie.Need-returns-3
-returns-3 c = let s = c .before .before in by-unit (s .args .n) (s .args .k) _ (s .pre .1) (closest-even _ _ (le-antisymm (c .if2 .left) (c .before .if1 .left)))
+returns-3 c = let s = c .before .before in gives s _ (half-even _ _ (positive s) (c .before .if1 .left) (c .if2 .left))
 
 pub nearest-spec : {M : Type 1} → statement M
 nearest-spec =
     tie.close
-    (tie.spec shl-unit div-whole rem-twice mul-twice returns add-result returns-2 add-result-2 returns-3)
+    (tie.spec sub-half shl-half mul-whole div-whole div-if1 returns rem-if2 add-result returns-2 add-result-2 returns-3)
