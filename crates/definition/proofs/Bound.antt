@@ -197,7 +197,7 @@ within-item d r i t a is w vs e ih h s l =
 run-within : (d : ℕ) (r : Place ℕ) (is : List Item) (t : Place ℕ) (vs : List Value) → reading r is ≡ accepted (t, vs) → Within d r is t vs
 run-within d = by-steps readItem [] _++_ (Within d) (within-none d) (within-item d)
 
-pub bounded : (f d : List ℕ) (p : ℤ) (b : List ℕ) → Bounded f d p b
+pub bounded : Bounded
 unfolding stringUnpack unpack read listBound List-bound.bound
 bounded f d p b u e =
     let i = into-accepted b (unpack f d p >>= λ r. accepted (unpackedOf r, listOf (r .0))) u e in
