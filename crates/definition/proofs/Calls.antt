@@ -1,36 +1,33 @@
 -- Laws of the calls: what a result buffer does to an answer, the room that it needs, and states that are returned.
 use Prim.Native.Nat.{ℕ, _+_, _≤_, _<_}
 use native.Mathlib.Omega.{arith}
-use mathlib.Core.Path.{_≡_, refl, sym, ap, _∙_, subst}
+use mathlib.Core.Path.{_≡_, refl, sym, ap, _∙_}
 use mathlib.Core.Bool.{Bool, true, false, _&&_, cond}
-use mathlib.Core.List.{List, [], _∷_, _++_, map}
-use lib.Dec.{T, leb, ltb, ltb→lt}
-use lib.IntN.{ℤ, pos, negsuc}
-use lib.ListN.{length, take, drop, length-append, length-map}
+use mathlib.Core.List.{List, _∷_}
+use lib.Dec.{T, leb}
+use lib.IntN.{ℤ}
+use lib.ListN.{length, drop, length-append, length-map}
 use lib.Seq.{drop-drop, take-at}
 use lib.Ieee.Bits.{is-true}
 use borrow.Author.Tests.{leb-true, leb-false, le-leb}
-use Rattle.definition.specs.Answers.{Checked, refused, accepted, _>>=_, _>>_, require}
+use Rattle.definition.specs.Answers.{Checked, refused, accepted, _>>=_}
 use Rattle.definition.specs.Items.{Item, items}
 use Rattle.definition.specs.Ops.{isPower}
 use Rattle.definition.specs.Values.{Value}
-use Rattle.definition.specs.Lists.{front, valueOf, fieldOf, valuesPast, values, listOf, bigTotal, fieldsAfter}
+use Rattle.definition.specs.Lists.{front, values, listOf, fieldsAfter}
 use Rattle.definition.specs.States.{start, set}
-use Rattle.definition.specs.Writing.{Cell, zeroed, Output, nothing, _⊕_, Place, place, writeItem, writing, write}
-use Rattle.definition.specs.Reading.{offsetOf, readFrom, read}
+use Rattle.definition.specs.Writing.{zeroed, Output, nothing, _⊕_, Place, place, writeItem, writing, write}
 use Rattle.definition.specs.Calls.{Call, call, into, atMost63, pack, recordOf, continuedOf, packContinued, stringPack, unpack, unpackedOf, stringUnpack}
 use Rattle.definition.specs.Claims.{LongEnough, gives, Total, totalOf, Room, Rooms, Returned}
 use Rattle.definition.specs.declared.State.{State}
 use Rattle.definition.specs.declared.Setting.{Setting}
 use Rattle.definition.specs.declared.Setting.the-variants as Setting
 use Rattle.definition.specs.declared.Op.{Op}
-use Rattle.definition.specs.declared.Position.{Position}
 use Rattle.definition.specs.declared.Continued.{Continued}
-use Rattle.definition.specs.declared.Unpacked.{Unpacked}
 use Rattle.definition.proofs.Answers.{never, same, same-number, bound, passed, by-steps, true-not-false}
 use Rattle.definition.proofs.Lists.{values-after}
 use Rattle.definition.proofs.Ops.{validOp, validSetting}
-use Rattle.definition.proofs.Steps.{Step, blank, sets, pads-out, puts, Ran, ran}
+use Rattle.definition.proofs.Steps.{Step, blank, sets, pads-out, puts, ran}
 use Rattle.definition.proofs.Refusals.{Below, low-writing, low-pack, low-unpack, below-not}
 
 -- ---- a result in a buffer

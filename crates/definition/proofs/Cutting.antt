@@ -1,12 +1,12 @@
 -- Continued writing of a format's parts in turn, each with a buffer of its own, is one call on the format.
 use Prim.Native.Nat.{ℕ, _+_}
 use native.Mathlib.Nat.{zero-add, add-zero, add-assoc}
-use mathlib.Core.Path.{_≡_, refl, sym, ap, _∙_, subst}
+use mathlib.Core.Path.{_≡_, refl, sym, ap, _∙_}
 use mathlib.Core.Bool.{Bool, true, false, _&&_, cond}
-use mathlib.Core.List.{List, [], _∷_, _++_, map, append-assoc, append-nil}
+use mathlib.Core.List.{List, [], _∷_, map, append-assoc, append-nil}
 use lib.Dec.{leb}
 use lib.ListN.{length, take, length-append}
-use Rattle.definition.specs.Answers.{Checked, refused, accepted, _>>=_, _>>_, require, after}
+use Rattle.definition.specs.Answers.{Checked, refused, accepted, _>>=_, after}
 use Rattle.definition.specs.Items.{items}
 use Rattle.definition.specs.Ops.{isPower}
 use Rattle.definition.specs.Values.{Value}
@@ -17,10 +17,10 @@ use Rattle.definition.specs.declared.Continued.{Continued}
 use Rattle.definition.specs.Calls.{Call, call, into, atMost63, pack, recordOf, continuedOf, packContinued, stringPack}
 use Rattle.definition.specs.Claims.{LongEnough, gives, Divides, Total, totalOf, joinedTo, inTurn}
 use Rattle.definition.specs.declared.State.{State}
-use Rattle.definition.proofs.Answers.{never, same}
+use Rattle.definition.proofs.Answers.{never}
 use Rattle.definition.proofs.Cells.{map-append}
 use Rattle.definition.proofs.Parts.{runs, cut-anywhere}
-use Rattle.definition.proofs.Calls.{Sound, pack-run, run-sound, run-left, Packed, packed, next-sound, next-values, totalOfRun, total-long}
+use Rattle.definition.proofs.Calls.{Sound, pack-run, Packed, next-sound, next-values, totalOfRun, total-long}
 
 -- ---- outputs, joined
 pub nothing-left : (o : Output) → nothing ⊕ o ≡ o

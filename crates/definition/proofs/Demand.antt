@@ -1,25 +1,24 @@
 -- Demand 3, proved: `demand` is all of it. Size, reading back and writing again hold of a run's output (Size, ReadBack), and so of the calls with buffers; the cuts are in Cutting.
 use Prim.Native.Nat.{ℕ, _+_, _-_, _%_, _^_, _≤_}
 use native.Mathlib.Omega.{arith}
-use mathlib.Core.Path.{_≡_, refl, sym, ap, _∙_, subst}
+use mathlib.Core.Path.{_≡_, refl, sym, ap, _∙_}
 use mathlib.Core.Bool.{true, cond}
-use mathlib.Core.List.{List, [], _∷_, _++_, map, append-nil}
+use mathlib.Core.List.{List, [], _++_, map, append-nil}
 use lib.Dec.{leb}
 use lib.IntN.{pos}
-use lib.ListN.{length, length-append, length-map}
+use lib.ListN.{length, length-append}
 use lib.Seq.{drop-at}
 use borrow.Author.Tests.{le-leb}
-use Rattle.definition.specs.Answers.{Checked, refused, accepted, _>>=_}
-use Rattle.definition.specs.Bytes.{IsByte}
+use Rattle.definition.specs.Answers.{refused, accepted, _>>=_}
 use Rattle.definition.specs.Items.{items}
-use Rattle.definition.specs.Values.{Value, Held}
-use Rattle.definition.specs.Lists.{values, listOf}
+use Rattle.definition.specs.Values.{Value}
+use Rattle.definition.specs.Lists.{listOf}
 use Rattle.definition.specs.States.{start}
-use Rattle.definition.specs.Writing.{zeroed, Output, output, Place, place, write}
+use Rattle.definition.specs.Writing.{zeroed, Output, output, Place, place}
 use Rattle.definition.specs.Reading.{offset, positionOf, read}
-use Rattle.definition.specs.Calls.{into, stringPacksize, pack, recordOf, stringPack, unpack, unpackedOf, stringUnpack}
-use Rattle.definition.specs.Claims.{All, LongEnough, gives, outputOf, written, packedBytes, keep, keptList, Holds, hasOpen, ShortChars, IntegersForJ, Readable, Agreement, Demand}
-use Rattle.definition.proofs.Answers.{never, same, bound}
+use Rattle.definition.specs.Calls.{into, pack, recordOf, stringPack, unpack, unpackedOf, stringUnpack}
+use Rattle.definition.specs.Claims.{LongEnough, gives, outputOf, written, packedBytes, keep, keptList, Holds, hasOpen, Readable, Agreement, Demand}
+use Rattle.definition.proofs.Answers.{never, bound}
 use Rattle.definition.proofs.Cells.{holds-length}
 use Rattle.definition.proofs.Lists.{values-held, values-of}
 use Rattle.definition.proofs.ReadBack.{Given, read-back, kept-took, write-again, kept-held}

@@ -22,7 +22,6 @@ use Rattle.definition.specs.Calls.{Call, call, stringPacksize, listBound
 use Rattle.definition.specs.declared.State.{State}
 use Rattle.definition.specs.declared.Field.{Field}
 use Rattle.definition.specs.declared.Field.the-variants.{Number, Chars, ZeroEnded, Counted}
-use Rattle.definition.specs.declared.Kind.{Kind}
 use Rattle.definition.specs.declared.Kind.the-variants.{SmallSigned, SmallUnsigned, Signed, Unsigned, LuaInteger, LuaUnsigned, Size, Single, Double}
 use Rattle.definition.specs.declared.Op.{Op}
 use Rattle.definition.specs.declared.Op.the-variants.{Blank, Set, Pad, Put}
@@ -183,7 +182,8 @@ inTurn s l (p ∷ ps) = totalOf (packContinued s (p .0) l (p .1)) >>= λ t. inTu
 pub record Demand : Type 0 where
   -- "Writing accepts F with some values": what then holds
   pub agreement : (f l b : List ℕ) (n : ℕ) → stringPack f l b .answer ≡ accepted n → Agreement f l b
-  -- "And for every format and values, accepted or refused, and every list of parts into which cuts between items divide the format: continued writing of the parts in turn, from the start state, gives the bytes, last state and counts of one such call on the whole, or the same refusal." One or more parts; from every state, of which `start` is one.
+  -- "And for every format and values, accepted or refused, and every list of parts into which cuts between items divide the format: continued writing of the parts in turn, from the start state,
+  -- gives the bytes, last state and counts of one such call on the whole, or the same refusal." One or more parts; from every state s, of which `start` is one.
   pub cuts : (s : State) (f l b : List ℕ) (p : List ℕ × List ℕ) (ps : List (List ℕ × List ℕ)) → Divides f (map (λ q. q .0) (p ∷ ps))
       → LongEnough (packContinued s f l b .answer) → LongEnough (inTurn s l (p ∷ ps))
       → totalOf (packContinued s f l b) ≡ inTurn s l (p ∷ ps)
