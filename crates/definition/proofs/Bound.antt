@@ -1,25 +1,22 @@
 -- An accepted reading's value list is at most as long as the list bound, which is accepted, or refused 9.
-use Prim.Native.Nat.{ℕ, zero, suc, _+_, _-_, _^_, _≤_, min}
+use Prim.Native.Nat.{ℕ, suc, _+_, _-_, _^_, _≤_, min}
 use mathlib.Core.Path.{_≡_, refl, sym, ap, _∙_, subst}
 use mathlib.Core.Bool.{Bool, true, false, cond}
 use mathlib.Core.List.{List, [], _∷_, _++_}
 use mathlib.Core.Logic.{_⊎_, inl, inr}
-use native.Mathlib.Nat.{add-zero}
 use native.Mathlib.Omega.{arith}
 use lib.Dec.{leb, eqb}
-use lib.IntN.{ℤ}
 use lib.ListN.{length, take, drop, length-drop}
 use lib.Seq.{length-take-le}
 use borrow.Author.Tests.{leb-true}
-use Rattle.definition.specs.Answers.{Checked, refused, accepted, _>>=_, _>>_, require, after, run}
+use Rattle.definition.specs.Answers.{refused, accepted, _>>=_}
 use Rattle.definition.specs.Items.{Item, items}
 use Rattle.definition.specs.Ops.{opOf, isPower}
 use Rattle.definition.specs.Bytes.{sign, signed, low}
-use Rattle.definition.specs.Values.{Value, integer, float, text, other}
+use Rattle.definition.specs.Values.{Value, integer, text}
 use Rattle.definition.specs.Lists.{content, listOf}
 use Rattle.definition.specs.States.{start, set, further, longer, natural, alignment, fill, padding}
 use Rattle.definition.specs.Fields.{first, short, upToZero, all, number, signedValue, unsigned, unsignedValue, valueBy, decode}
-use Rattle.definition.specs.Measuring.{silent}
 use Rattle.definition.specs.Writing.{Place, place}
 use Rattle.definition.specs.Reading.{offsetOf, skipped, readPad, readField, readOp, readItem, reading, readFrom, read}
 use Rattle.definition.specs.Bound.{most, boundOp, boundItem, bounding}
@@ -197,7 +194,7 @@ within-item d r i t a is w vs e ih h s l =
 run-within : (d : ℕ) (r : Place ℕ) (is : List Item) (t : Place ℕ) (vs : List Value) → reading r is ≡ accepted (t, vs) → Within d r is t vs
 run-within d = by-steps readItem [] _++_ (Within d) (within-none d) (within-item d)
 
-pub bounded : (f d : List ℕ) (p : ℤ) (b : List ℕ) → Bounded f d p b
+pub bounded : Bounded
 unfolding stringUnpack unpack read listBound List-bound.bound
 bounded f d p b u e =
     let i = into-accepted b (unpack f d p >>= λ r. accepted (unpackedOf r, listOf (r .0))) u e in
