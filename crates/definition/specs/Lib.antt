@@ -15,4 +15,6 @@ pub mod Program
 pub mod Calls
 pub mod Claims
 pub mod Profiles
+pub mod Entries
+pub mod Examples
 pub mod Premises

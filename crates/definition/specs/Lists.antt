@@ -1,5 +1,5 @@
 -- "The value list": fields of a one-byte tag, a two-byte length (big-endian) and content.
-use Prim.Native.Nat.{ℕ, zero, suc, _+_}
+use Prim.Native.Nat.{ℕ, zero, suc, _+_, _-_}
 use mathlib.Core.Bool.{cond}
 use mathlib.Core.List.{List, [], _∷_, _++_, reverse}
 use lib.Dec.{leb, eqb}
@@ -70,3 +70,7 @@ unfoldable pub fieldsAfter : ℕ → List ℕ → List ℕ
 fieldsAfter zero l = l
 fieldsAfter (suc k) [] = []
 fieldsAfter (suc k) (t ∷ s) = fieldsAfter k (drop (2 + bigTotal (take 2 s)) s)
+
+-- where that list starts
+abbrev pub offsetAfter : ℕ → List ℕ → ℕ
+offsetAfter k l = length l - length (fieldsAfter k l)

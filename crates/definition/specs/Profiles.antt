@@ -1,4 +1,4 @@
--- "Profiles to try": P1 to P14 as one table, and a second one with what they leave out. Each table holds by computation.
+-- "Profiles to try": P1 to P14 as one table, which holds by computation. Entries and Examples have further tables.
 use Prim.Native.Nat.{ℕ, _-_, _^_}
 use Prim.Native.String.{String}
 use mathlib.Core.Path.{_≡_, refl}
@@ -96,14 +96,14 @@ read-refused f d p k = (reads (bytes f) d p, refused k)
 abbrev pub Hold : List Row → Type 0
 Hold rows = map (λ r. result (r .0)) rows ≡ map (λ r. r .1) rows
 
-abbrev int : ℕ → Value
+abbrev pub int : ℕ → Value
 int n = integer (pos n)
 
 -- -1 - n
-abbrev neg : ℕ → Value
+abbrev pub neg : ℕ → Value
 neg n = integer (negsuc n)
 
-abbrev str : String → Value
+abbrev pub str : String → Value
 str s = text (bytes s)
 
 -- ---- P1 to P14, with the three further measures
@@ -144,118 +144,3 @@ profiles =
 pub profiles-hold : Hold profiles
 unfolding profiles little total signed laid listOf fieldOf valuesPast options entryOf digits nextByte taken itemsPast value numeralOf opOf longer alignment padding word encode number decode measureOp measureItem measure writeField writeOp writeItem readField readOp readItem read pack stringPack unpack stringUnpack toSingle fromSingle ofBits toBits ofInt ofFields odd round nanBits size span climb units trailingZeros
 profiles-hold = refl
-
--- ---- what P1 to P14 leave out: traps, the order of checks, and inputs at which a mistake would show
-pub more : List Row
-more =
-    -- numerals: zeros alone are one; 2 comes before 3, 3 before 6, 4 before 5
-    size-gives "L" 4
-    ∷ size-gives "c000" 0
-    ∷ size-refused "i000" 3
-    ∷ size-refused "Xi00" 3
-    ∷ size-refused "!000" 4
-    ∷ size-refused "!18" 4
-    ∷ size-refused "!3" 5
-    ∷ size-refused "!4i17" 3
-    ∷ size-refused "i18446744073709551616" 2
-    ∷ size-refused "s18446744073709551616" 2
-    ∷ size-refused "s17" 3
-    ∷ size-refused "c" 8
-    ∷ size-refused "c18446744073709551615" 9
-    -- digits belong to i I l L c s ! and, behind X, to i I l L f
-    ∷ size-refused "b4" 1
-    ∷ size-refused "i 4" 1
-    ∷ size-refused "Xd8" 1
-    ∷ size-refused "XT8" 1
-    ∷ size-gives "Xf99999999999999999999999" 0
-    ∷ size-refused "Xi18446744073709551616" 2
-    ∷ size-refused "Xs99999999999999999999" 7
-    -- X: any byte below 128 but those under 7 aligns by 1; the byte belongs to X
-    ∷ size-gives "X5X\0X\u{b}X\u{c}X\u{7f}Xq" 0
-    ∷ size-refused "X55" 1
-    ∷ size-refused "X" 7
-    ∷ (sizes (0x58 ∷ 0x80 ∷ []), refused 1)
-    ∷ size-refused "\u{b}" 1
-    -- 6: below the limit and no power of two
-    ∷ size-gives "!8i12" 12
-    ∷ size-refused "!16i9" 6
-    ∷ size-refused "!16Xi9" 6
-    ∷ pack-refused "!4i3" [] 6
-    -- measuring z and s: left to right, 10 after 2 and 3
-    ∷ size-refused "s" 10
-    ∷ size-refused "zq" 10
-    ∷ size-refused "qz" 1
-    -- the list bound has 9 on its sum only
-    ∷ (bounds (bytes "c18446744073709551615") 0, accepted (data-number 65538))
-    ∷ (bounds (bytes "!4bzs2d") 5, accepted (data-number 38))
-    ∷ (bounds (bytes "!4i3") 0, refused 6)
-    ∷ (bounds (bytes "b") (2 ^ 63), refused 21)
-    -- writing: s is not aligned; b is not checked for its range; 21 looks at the whole list; 22 comes last
-    ∷ pack-gives "<!4bs4" (int 1 ∷ str "A" ∷ []) (1 ∷ 1 ∷ 0 ∷ 0 ∷ 0 ∷ 0x41 ∷ [])
-    ∷ (packs (bytes "b") (listOf (str "A" ∷ [])) 0, refused 12)
-    ∷ (packs (bytes "b") (listOf (int 1 ∷ [])) 0, refused 22)
-    ∷ (packs (bytes "bb") (listOf (int 1 ∷ [])) 0, refused 11)
-    ∷ (packs [] (4 ∷ []) 0, refused 21)
-    ∷ (packs (bytes "q") (0 ∷ 0 ∷ 1 ∷ 0 ∷ []) 0, refused 21)
-    ∷ pack-refused "z" (text (0 ∷ []) ∷ []) 14
-    ∷ pack-refused "c1" (str "AB" ∷ []) 15
-    ∷ pack-refused "I8" (neg 0 ∷ []) 13
-    ∷ pack-refused "I16" (neg 0 ∷ []) 13
-    ∷ pack-refused "J" (neg 0 ∷ []) 13
-    ∷ pack-gives ">i9" (neg (2 ^ 63 - 1) ∷ []) (0xff ∷ 0x80 ∷ replicate 7 0)
-    -- as_integer decides first for j J T
-    ∷ pack-gives "<T" (float 0xc000_0000_0000_0000 ∷ []) (0xfe ∷ replicate 7 0xff)
-    ∷ pack-gives "<T" (float 0xc004_0000_0000_0000 ∷ []) (replicate 8 0xff)
-    ∷ pack-gives "<T" (float 0xc08f_fc00_0000_0000 ∷ []) (replicate 8 0xff)
-    ∷ pack-gives "<T" (float 0xc090_0200_0000_0000 ∷ []) (0 ∷ 0xf8 ∷ replicate 6 0xff)
-    ∷ pack-gives "<T" (float 0x7e37_e43c_8800_759c ∷ []) (replicate 8 0)
-    ∷ pack-gives "<j" (float 0x8000_0000_0000_0000 ∷ []) (replicate 8 0)
-    ∷ pack-gives ">J" (float 0x43e0_0000_0000_0000 ∷ []) (0x43 ∷ 0xe0 ∷ replicate 6 0)
-    ∷ pack-gives ">J" (float 0xbfe0_0000_0000_0000 ∷ []) (0xbf ∷ 0xe0 ∷ replicate 6 0)
-    ∷ pack-gives ">J" (float 0xfff0_0000_0000_0001 ∷ []) (0xff ∷ 0xf0 ∷ 0 ∷ 0 ∷ 0 ∷ 0 ∷ 0 ∷ 1 ∷ [])
-    -- d keeps a signalling NaN, f makes it quiet
-    ∷ pack-gives ">d" (float 0x7ff0_0000_0000_0001 ∷ []) (0x7f ∷ 0xf0 ∷ 0 ∷ 0 ∷ 0 ∷ 0 ∷ 0 ∷ 1 ∷ [])
-    ∷ pack-gives ">f" (float 0x7ff0_0000_2000_0000 ∷ []) (0x7f ∷ 0xc0 ∷ 0 ∷ 1 ∷ [])
-    -- continued writing: blanks are not counted; alignment counts from the state's length; 9 after the value's checks, but for c
-    ∷ (continues start (bytes "< !4 x Xi4") [] 4, accepted (data-continued (0 ∷ 0 ∷ 0 ∷ 0 ∷ []) 0 4 (state false 4 4)))
-    ∷ (continues (state false 4 1) (bytes "i") (listOf (int 7 ∷ other ∷ [])) 7, accepted (data-continued (0 ∷ 0 ∷ 0 ∷ 7 ∷ 0 ∷ 0 ∷ 0 ∷ []) 1 1 (state false 4 8)))
-    ∷ (continues (state false 3 0) [] [] 0, refused 21)
-    ∷ (continues (state false 1 (2 ^ 63)) [] [] 0, refused 21)
-    ∷ (continues (state false 1 (2 ^ 63 - 1)) (bytes "b") [] 1, refused 11)
-    ∷ (continues (state false 1 (2 ^ 63 - 1)) (bytes "b") (listOf (str "" ∷ [])) 1, refused 12)
-    ∷ (continues (state false 1 (2 ^ 63 - 1)) (bytes "i1") (listOf (int 128 ∷ [])) 1, refused 13)
-    ∷ (continues (state false 1 (2 ^ 63 - 1)) (bytes "b") (listOf (int 1 ∷ [])) 1, refused 9)
-    ∷ (continues (state false 1 (2 ^ 63 - 1)) (bytes "c1") [] 1, refused 9)
-    -- reading: 16 before all items; the data's checks with the format's, left to right
-    ∷ read-refused "q" (7 ∷ []) (pos 0) 16
-    ∷ read-refused "bq" [] (pos 1) 17
-    ∷ read-gives "" [] (pos 1) [] 1
-    ∷ read-refused "" [] (negsuc 0) 16
-    ∷ read-refused "" (7 ∷ []) (negsuc (2 ^ 63 - 1)) 16
-    ∷ read-gives "b" (200 ∷ []) (negsuc 0) (neg 55 ∷ []) 2
-    ∷ read-gives "<!4i" (9 ∷ 9 ∷ 9 ∷ 9 ∷ 7 ∷ 0 ∷ 0 ∷ 0 ∷ []) (pos 2) (int 7 ∷ []) 9
-    ∷ read-refused "!4Xi" (9 ∷ []) (pos 2) 17
-    ∷ read-refused "z" [] (pos 1) 19
-    ∷ read-refused "z" (65 ∷ []) (pos 1) 19
-    ∷ read-refused "c65536" (65 ∷ []) (pos 1) 17
-    ∷ read-refused "<s4" (0x70 ∷ 0x11 ∷ 1 ∷ 0 ∷ []) (pos 1) 17
-    ∷ read-refused "<s9" (replicate 9 1) (pos 1) 18
-    ∷ read-refused "s" (replicate 8 0xff) (pos 1) 17
-    ∷ read-refused "bc18446744073709551615" (1 ∷ 2 ∷ 3 ∷ []) (pos 1) 17
-    ∷ read-refused ">i9" (0 ∷ replicate 8 0xff) (pos 1) 18
-    ∷ read-refused ">i9" (0xff ∷ replicate 8 0) (pos 1) 18
-    ∷ read-gives "I8" (replicate 8 0xff) (pos 1) (neg 0 ∷ []) 9
-    ∷ read-gives ">f" (0x7f ∷ 0x80 ∷ 0 ∷ 1 ∷ []) (pos 1) (float 0x7ff8_0000_2000_0000 ∷ []) 5
-    -- kept values
-    ∷ (keeps (bytes "bBc3") (listOf (int 200 ∷ int 456 ∷ str "AB" ∷ [])), accepted (data-values (neg 55 ∷ int 200 ∷ str "AB\0" ∷ []) 0))
-    ∷ (keeps (bytes "Tj") (listOf (float 0xbfe0_0000_0000_0000 ∷ float 0xbfe0_0000_0000_0000 ∷ [])), accepted (data-values (neg 0 ∷ neg 4620693217682128895 ∷ []) 0))
-    ∷ (keeps (bytes "f") (listOf (int 1152921573326323713 ∷ [])), accepted (data-values (float 0x43b0_0000_0000_0000 ∷ []) 0))
-    -- the program
-    ∷ (prints (bytes "<!8bn"), accepted (data-bytes (bytes "size 16\n")))
-    ∷ (prints (bytes "q\nb"), accepted (data-bytes (bytes "refused 1\n")))
-    ∷ (prints (replicate 4097 0x62), accepted (data-bytes (bytes "refused 22\n")))
-    ∷ []
-
-pub more-hold : Hold more
-unfolding more little total signed laid listOf fieldOf valuesPast options entryOf digits nextByte taken itemsPast value numeralOf opOf longer alignment padding word encode number decode kept measureOp measureItem measure writeField writeOp writeItem readField readOp readItem read boundOp boundItem bound listBound firstLine decimalIn printed pack packContinued stringPack unpack stringUnpack toSingle fromSingle ofBits toBits ofInt ofFields odd round nanBits size span climb units trailingZeros
-more-hold = refl
