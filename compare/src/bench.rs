@@ -46,8 +46,8 @@ struct Report {
     /// The workloads with goals, then those that grow.
     goals: Vec<Row>,
     growth: Vec<Row>,
-    /// Instructions for each number of parts, by each way to write them.
-    parts: Vec<[f64; 3]>,
+    /// Instructions for each number of parts, by each way to write them, and by the Lua module.
+    parts: Vec<([f64; 3], f64)>,
     stand_ins: Vec<(&'static str, f64)>,
     version: String,
 }
@@ -120,7 +120,9 @@ fn measured(goals: Vec<Workload>, growth: Vec<Workload>, version: String, scratc
     };
     let goals = goals.into_iter().map(&mut row).collect::<Result<_, _>>()?;
     let growth = growth.into_iter().map(&mut row).collect::<Result<_, _>>()?;
-    Ok(Report { goals, growth, parts: counts.parts, stand_ins: counts.stand_ins, version })
+    let in_lua = parts::all().iter().map(|parts| lua::count_parts(parts, scratch)).collect::<Result<Vec<_>, _>>()?;
+    let parts = counts.parts.into_iter().zip(in_lua).collect();
+    Ok(Report { goals, growth, parts, stand_ins: counts.stand_ins, version })
 }
 
 fn publish(report: &Report, folder: Option<&Path>) -> Result<(), String> {

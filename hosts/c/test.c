@@ -179,6 +179,55 @@ static void test_continued_writing(void)
     continues((State){0, 1, ABOVE}, "", nothing, 1, 21, nothing, NULL);
 }
 
+/* Where each part is lent as many fields as its format has bytes, the parts are the whole. */
+static void test_parts(void)
+{
+    static const char *const parts[] = {"<!4 b", "", "Xi4", "i", "s1 h", "z"};
+    Slice list = BYTES(INTEGER(1), INTEGER(2), 3, 0, 2, 'A', 'B', INTEGER(3), 3, 0, 1, 'C', INTEGER(4));
+    Slice whole = BYTES(1, 0, 0, 0, 2, 0, 0, 0, 2, 'A', 'B', 0, 3, 0, 'C', 0);
+    uint8_t *record = lent(16);
+    uint64_t from[6] = {0, 1, 0, 0, 0, 0}, fields, used, written = 0;
+    packs("<!4 bXi4is1 hz", list, 16, 0, whole);
+    for (size_t i = 0; i < sizeof parts / sizeof parts[0]; i++) {
+        Slice format = text(parts[i]);
+        CHECK(digribbon_list_after(list.start, list.length, format.length, &fields) == 0);
+        CHECK(digribbon_pack_continued(from[0], from[1], from[2], format.start, format.length, list.start, fields,
+                                       record + written, 16 - written, from) == 0);
+        CHECK(digribbon_list_after(list.start, fields, from[4], &used) == 0);
+        list = (Slice){list.start + used, list.length - used};
+        written += from[3];
+    }
+    CHECK(written == 16 && holds(record, 16, whole) && list.length == 11);
+    free(record);
+}
+
+/* The header's sums for buffers suffice for the longest items: aligned integers and lengths, fills, texts. */
+static void test_sums(void)
+{
+    static const struct {
+        const char *format;
+        size_t numerals;
+    } longest[] = {{"!16bi16", 0}, {"!8bj", 0}, {"!8bs", 0}, {"bs16", 0}, {"bc300", 300}, {"!16bXi16", 0}, {"bz", 0}};
+    for (size_t i = 0; i < sizeof longest / sizeof longest[0]; i++) {
+        Slice format = text(longest[i].format);
+        bool takes_text = strpbrk(longest[i].format, "scz") != NULL;
+        Slice list = takes_text ? BYTES(INTEGER(1), 3, 0, 1, 'A') : BYTES(INTEGER(1), INTEGER(2));
+        size_t room = list.length + 16 * format.length + longest[i].numerals;
+        uint8_t *record = lent(room), *values;
+        uint64_t answer[2];
+        CHECK(digribbon_pack(format.start, format.length, list.start, list.length, record, room, answer) == 0);
+        Slice data = {record, answer[0]};
+        CHECK(digribbon_pack(format.start, format.length, list.start, list.length, record, data.length - 1, answer) ==
+              DIGRIBBON_RESULT_TOO_LONG);
+        room = 11 * format.length + data.length;
+        values = lent(room);
+        CHECK(digribbon_unpack(format.start, format.length, data.start, data.length, 1, values, room, answer) == 0);
+        CHECK(answer[1] == data.length + 1);
+        free(values);
+        free(record);
+    }
+}
+
 static void test_reading(void)
 {
     Slice minus_2 = BYTES(1, 0, 8, 0xFF, 0xFF, 0xFF, 0xFF, 0xFF, 0xFF, 0xFF, 0xFE);
@@ -203,14 +252,14 @@ static void test_list_after(void)
     goes_on(nothing, 1, 0);
 }
 
-/* The table has the numbers 1 to 22, each with a cause and a sentence. */
+/* The table has the numbers 1 to 22, each with a name, a cause and a sentence. */
 static void test_table(void)
 {
     unsigned last = 0;
-#define NEXT(number, cause, sentence) \
-    CHECK(number == ++last && strlen(cause) > 0 && sentence[strlen(sentence) - 1] == '.');
+#define NEXT(number, name, cause, sentence) \
+    CHECK(number == ++last && name == number && strlen(cause) > 0 && sentence[strlen(sentence) - 1] == '.');
     DIGRIBBON_REFUSALS(NEXT)
-    CHECK(last == 22);
+    CHECK(last == 22 && DIGRIBBON_RESULT_TOO_LONG == 22);
 }
 
 int main(void)
@@ -218,6 +267,8 @@ int main(void)
     test_measuring();
     test_writing();
     test_continued_writing();
+    test_parts();
+    test_sums();
     test_reading();
     test_list_after();
     test_table();

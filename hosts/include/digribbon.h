@@ -18,8 +18,15 @@
  * The caller sees to it that
  *   - a slice is a pointer and a length in bytes, and the pointer is not NULL, also where the length is 0;
  *   - no slice's length is above 2^63-1;
+ *   - an answer is aligned as a uint64_t is, and has as many of them as its call's declaration says;
  *   - the buffers of one call, its answer among them, do not overlap (those that are only read may);
- *   - nobody changes a lent byte during the call.
+ *   - nobody changes a lent byte during the call. A call first checks its input and then puts the result, trusting
+ *     what it has checked. Where a byte changes in between nothing is promised, not even that the call reads and
+ *     writes inside what it was lent. So bytes that others can change, as in memory that is shared, are copied first;
+ *   - the float environment is C's default: rounding to nearest, no traps, no subnormal number taken for a zero. Only T
+ *     of a float that equals no integer depends on it. With another rounding, or where subnormal numbers are taken for
+ *     zeros (as in a program linked with gcc's -ffast-math), it can write other bytes; with traps on, it can end the
+ *     process. All else is the same in every environment.
  *
  * A value list is fields, one after the other: a tag (1 byte), the content's length (2 bytes, big-endian), the content.
  *
@@ -29,11 +36,8 @@
  *     2    8 bytes: the bits of a float, big-endian
  *     3    0 to 65,535 bytes: a text
  *
- * Calls are added under new names, and those here keep their arguments, answers and numbers. The starting offset in a
- * file (document 02, request Ten) comes as digribbon_packsize_at, digribbon_pack_at, digribbon_pack_continued_at and
- * digribbon_unpack_at, which take one number more and at offset 0 do what these do. The width of size_t (request
- * Thirteen) comes in the same way, under further names, which take the offset and the width and at width 8 do what
- * those do. New refusals take numbers from 23 on.
+ * Calls are added under new names, and new refusals take new numbers. Those here keep their names, arguments, answers
+ * and numbers.
  */
 #ifndef DIGRIBBON_H
 #define DIGRIBBON_H
@@ -46,35 +50,45 @@
 #endif
 
 /*
- * Every refusal: its number, who causes it, what it says. The first failing check decides; 21 comes first of all and
- * 22 last of all. For a table, give a macro of three arguments:
+ * Every refusal: its number, its name, who causes it, what it says. The first failing check decides; 21 comes first of
+ * all and 22 last of all. For code about each of them, give a macro of four arguments:
  *
- *     #define SENTENCE(number, cause, sentence) [number] = sentence,
- *     static const char *const sentences[] = {DIGRIBBON_REFUSALS(SENTENCE)};
+ *     #define SENTENCE(number, name, cause, sentence) case name: return sentence;
+ *
+ *     const char *sentence_of(uint64_t number)
+ *     {
+ *         switch (number) { DIGRIBBON_REFUSALS(SENTENCE) }
+ *         return "accepted";
+ *     }
  */
 #define DIGRIBBON_REFUSALS(refusal) \
-    refusal(1, "profile author", "The format has a byte that is no option, or a byte above 127.") \
-    refusal(2, "profile author", "A numeral is 2^64 or more.") \
-    refusal(3, "profile author", "The size of i, I, l, L or s is outside 1 to 16.") \
-    refusal(4, "profile author", "The limit of ! is outside 1 to 16.") \
-    refusal(5, "profile author", "The limit of ! is no power of two.") \
-    refusal(6, "profile author", "An alignment is above 1 and no power of two.") \
-    refusal(7, "profile author", "X stands at the end, or before a blank, X, <, >, =, !, c, s, z or x.") \
-    refusal(8, "profile author", "c has no numeral.") \
-    refusal(9, "profile author", "The length, or the list bound's sum, is above 2^63-1.") \
-    refusal(10, "profile author", "z or s has no fixed size, so the format cannot be measured.") \
-    refusal(11, "supplier of values", "No value is left.") \
-    refusal(12, "supplier of values", "A value has the wrong kind.") \
-    refusal(13, "supplier of values", "An integer is out of its option's range.") \
-    refusal(14, "supplier of values", "A text for z contains a zero.") \
-    refusal(15, "supplier of values", "A text is longer than c's size, or than s's length can say.") \
-    refusal(16, "card data", "The start position lies outside the data.") \
-    refusal(17, "card data", "The data end too early.") \
-    refusal(18, "card data", "An integer does not fit 64 bits.") \
-    refusal(19, "card data", "A text of z has no zero at its end.") \
-    refusal(20, "card data", "A text is longer than 65,535 bytes.") \
-    refusal(21, "host program", "The value list is malformed, the data or the state's length is above 2^63-1, or the state's limit is no power of two of 1 to 16.") \
-    refusal(22, "host program", "The result is longer than the lent buffer.")
+    refusal(1, DIGRIBBON_UNKNOWN_OPTION, "profile author", "The format has a byte that is no option, or a byte above 127.") \
+    refusal(2, DIGRIBBON_NUMERAL_TOO_LARGE, "profile author", "A numeral is 2^64 or more.") \
+    refusal(3, DIGRIBBON_SIZE_OUTSIDE, "profile author", "The size of i, I, l, L or s is outside 1 to 16.") \
+    refusal(4, DIGRIBBON_LIMIT_OUTSIDE, "profile author", "The limit of ! is outside 1 to 16.") \
+    refusal(5, DIGRIBBON_LIMIT_NO_POWER, "profile author", "The limit of ! is no power of two.") \
+    refusal(6, DIGRIBBON_ALIGNMENT_NO_POWER, "profile author", "An alignment is above 1 and no power of two.") \
+    refusal(7, DIGRIBBON_MISPLACED_X, "profile author", "X stands at the end, or before a blank, X, <, >, =, !, c, s, z or x.") \
+    refusal(8, DIGRIBBON_MISSING_NUMERAL, "profile author", "c has no numeral.") \
+    refusal(9, DIGRIBBON_LENGTH_TOO_LARGE, "profile author", "The length, or the list bound's sum, is above 2^63-1.") \
+    refusal(10, DIGRIBBON_NO_FIXED_SIZE, "profile author", "z or s has no fixed size, so the format cannot be measured.") \
+    refusal(11, DIGRIBBON_NO_VALUE_LEFT, "supplier of values", "No value is left.") \
+    refusal(12, DIGRIBBON_WRONG_KIND, "supplier of values", "A value has the wrong kind.") \
+    refusal(13, DIGRIBBON_OUT_OF_RANGE, "supplier of values", "An integer is out of its option's range.") \
+    refusal(14, DIGRIBBON_ZERO_IN_TEXT, "supplier of values", "A text for z contains a zero.") \
+    refusal(15, DIGRIBBON_TEXT_DOES_NOT_FIT, "supplier of values", "A text is longer than c's size, or than s's length can say.") \
+    refusal(16, DIGRIBBON_START_OUTSIDE, "card data", "The start position lies outside the data.") \
+    refusal(17, DIGRIBBON_DATA_END, "card data", "The data end too early.") \
+    refusal(18, DIGRIBBON_INTEGER_TOO_WIDE, "card data", "An integer does not fit 64 bits.") \
+    refusal(19, DIGRIBBON_MISSING_ZERO, "card data", "A text of z has no zero at its end.") \
+    refusal(20, DIGRIBBON_TEXT_ABOVE_65535, "card data", "A text is longer than 65,535 bytes.") \
+    refusal(21, DIGRIBBON_MALFORMED, "host program", "The value list is malformed, the data or the state's length is above 2^63-1, or the state's limit is no power of two of 1 to 16.") \
+    refusal(22, DIGRIBBON_RESULT_TOO_LONG, "host program", "The result is longer than the lent buffer.")
+
+/* The numbers by name: DIGRIBBON_UNKNOWN_OPTION is 1, and so on. */
+#define DIGRIBBON_NUMBER(number, name, cause, sentence) name = number,
+enum { DIGRIBBON_REFUSALS(DIGRIBBON_NUMBER) };
+#undef DIGRIBBON_NUMBER
 
 #ifdef __cplusplus
 extern "C" {
@@ -97,6 +111,11 @@ uint64_t digribbon_packsize(const uint8_t *format, size_t format_len, uint64_t a
  *     data_length  the length of the data to be read
  *     answer[0]    the bound
  *
+ * For each z and s it counts the data's whole length, or 65,535 where that is less, so it can be far more than a list
+ * needs. This sum suffices too: 11 for each byte of the format, and the data's length. An option is at least a byte, a
+ * number takes 11 bytes, a text 3 and its own, and the texts lie apart in the data. (The bound is proved, the sum is
+ * not.)
+ *
  * Refusals: 1 to 9 (9 for the bound itself), and 21 for a data_length above 2^63-1.
  */
 uint64_t digribbon_list_bound(const uint8_t *format, size_t format_len, uint64_t data_length, uint64_t answer[1]);
@@ -108,6 +127,11 @@ uint64_t digribbon_list_bound(const uint8_t *format, size_t format_len, uint64_t
  *     list       the values, a value list; those that the format does not take are ignored
  *     record     the result buffer
  *     answer[0]  the record's length
+ *
+ * digribbon_packsize says how long the buffer must be, but not for a format with z or s. This sum suffices for every
+ * format: the list's length, 16 for each byte of the format, and the numerals behind its c. (A rule of thumb: it
+ * follows item by item from what the options write, and held in every run, but it is not proved.) A buffer that is too
+ * short gives 22 and nothing is changed, so a host may also begin with a shorter one.
  *
  * Refusals: 1 to 9, 11 to 15, 21, 22.
  */
@@ -134,6 +158,17 @@ uint64_t digribbon_pack(const uint8_t *format, size_t format_len,
  *
  * The first part has order 0, limit 1, length 0. A format that is cut between items and written part by part gives the
  * bytes that digribbon_pack gives for the whole.
+ *
+ * A call walks over the whole list that it is lent. Where each of many parts is lent all values that are left, the
+ * record takes quadratic time. An item has at least a byte and takes at most one value, so lend a part no more fields
+ * than its format has bytes, and the record takes linear time:
+ *
+ *     digribbon_list_after(rest, rest_len, format_len, &lent);
+ *     number = digribbon_pack_continued(order, limit, length, format, format_len, rest, lent,
+ *                                       record, record_len, answer);
+ *     digribbon_list_after(rest, lent, answer[4], &used);
+ *     rest += used;
+ *     rest_len -= used;
  *
  * Refusals: 1 to 9, 11 to 15, 21, 22.
  */

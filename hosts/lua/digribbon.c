@@ -1,12 +1,15 @@
 /*
  * The module "digribbon" for Lua 5.4 and later: pack, packsize, unpack, and a writer for continued writing.
  *
- * All memory is Lua's own (luaL_Buffer), so an error that is raised here loses none.
+ * Memory is the C stack's or a block of Lua's own, so an error that is raised here loses none. Whatever asks Lua for
+ * memory can run finalizers, and so any code, that of the module included.
  */
 #include <lauxlib.h>
 #include <lua.h>
+#include <stdbool.h>
 #include <stdlib.h>
 #include <string.h>
+#include <xmmintrin.h>
 
 #include "../include/digribbon.h"
 
@@ -20,6 +23,7 @@ _Static_assert(sizeof(lua_Integer) == 8 && sizeof(lua_Number) == 8, "integers an
 
 enum { OTHER, INTEGER, FLOAT, TEXT };          /* tags of a value list */
 enum { HEAD = 3, NUMBER = 8, LONGEST = 65535 }; /* bytes of a field's tag and length, of a number, of a text at most */
+enum { SMALL = 1024 };                         /* up to so many bytes lie on the C stack */
 
 typedef struct {
     const uint8_t *start;
@@ -30,38 +34,85 @@ typedef struct {
     uint64_t order, limit, length;
 } State;
 
+/* Values to be written by a format, from a state. */
+typedef struct {
+    State from;
+    Slice format, list;
+} Writing;
+
 /* What continued writing answers. */
 typedef struct {
     State next;
     uint64_t written, used, items;
 } Written;
 
+/* A part that was written, and the state that it went on from. */
+typedef struct {
+    State from;
+    Written answer;
+    const uint8_t *bytes;
+} Part;
+
+static Slice check_text(lua_State *L, int argument)
+{
+    Slice text;
+    text.start = (const uint8_t *)luaL_checklstring(L, argument, &text.length);
+    return text;
+}
+
+/* Room for a value list and for a record. */
+typedef struct {
+    uint8_t list[SMALL], record[SMALL];
+} Small;
+
+/* So many bytes: `small` where it suffices, else a block that stays on Lua's stack. */
+static uint8_t *memory(lua_State *L, size_t length, uint8_t small[SMALL])
+{
+    return length <= SMALL ? small : lua_newuserdatauv(L, length, 0);
+}
+
 /* ---- refusals */
 
 static const struct {
     const char *cause, *sentence;
 } refusals[] = {
-#define REFUSAL_ENTRY(number, cause, sentence) [number] = {cause, sentence},
+#define REFUSAL_ENTRY(number, name, cause, sentence) [number] = {cause, sentence},
     DIGRIBBON_REFUSALS(REFUSAL_ENTRY)
 };
 
-/* Raises a refusal: a table with its number, sentence and cause, and as text the message with the caller's place. */
-static int refuse(lua_State *L, uint64_t number)
+/* An argument's number as Lua's messages have it: of a method's call, self is not counted. */
+static int shown(lua_State *L, int argument)
+{
+    lua_Debug call;
+    bool is_method = lua_getstack(L, 0, &call) && lua_getinfo(L, "n", &call) && strcmp(call.namewhat, "method") == 0;
+    return argument - is_method;
+}
+
+/*
+ * Raises a refusal that is about an argument: a table with its number, sentence and cause, and as text a message as
+ * Lua's own of bad arguments, with the caller's place. `value` is the argument's place among the values, or 0.
+ */
+static int refuse(lua_State *L, const char *function, uint64_t number, int argument, int value)
 {
     const char *cause = "unknown", *sentence = "The library gave a number that this module does not know.";
     if (number < sizeof refusals / sizeof refusals[0]) {
         cause = refusals[number].cause;
         sentence = refusals[number].sentence;
     }
-    lua_createtable(L, 0, 4);
+    lua_createtable(L, 0, 5);
     lua_pushinteger(L, (lua_Integer)number);
     lua_setfield(L, -2, "number");
     lua_pushstring(L, sentence);
     lua_setfield(L, -2, "sentence");
     lua_pushstring(L, cause);
     lua_setfield(L, -2, "cause");
+    if (value > 0) {
+        lua_pushinteger(L, value);
+        lua_setfield(L, -2, "value");
+    }
     luaL_where(L, 1);
-    lua_pushfstring(L, "%srefusal %d: %s", lua_tostring(L, -1), (int)number, sentence);
+    lua_pushfstring(L, "%sbad argument #%d to '%s' (refusal %d: %s)", lua_tostring(L, -1), shown(L, argument), function,
+                    (int)number, sentence);
     lua_setfield(L, -3, "message");
     lua_pop(L, 1);
     luaL_setmetatable(L, REFUSAL);
@@ -77,57 +128,62 @@ static int refusal_tostring(lua_State *L)
 
 /* ---- value lists */
 
-static Slice check_text(lua_State *L, int argument)
+static uint8_t *put_field(uint8_t *at, int tag, const void *content, size_t length)
 {
-    Slice text;
-    text.start = (const uint8_t *)luaL_checklstring(L, argument, &text.length);
-    return text;
+    at[0] = (uint8_t)tag;
+    at[1] = (uint8_t)(length / 256);
+    at[2] = (uint8_t)(length % 256);
+    memcpy(at + HEAD, content, length);
+    return at + HEAD + length;
 }
 
-static Slice added(luaL_Buffer *buffer)
-{
-    return (Slice){(const uint8_t *)luaL_buffaddr(buffer), luaL_bufflen(buffer)};
-}
-
-static void add_field(luaL_Buffer *list, int tag, const void *content, size_t length)
-{
-    char *field = luaL_prepbuffsize(list, HEAD + length);
-    field[0] = (char)tag;
-    field[1] = (char)(length / 256);
-    field[2] = (char)(length % 256);
-    memcpy(field + HEAD, content, length);
-    luaL_addsize(list, HEAD + length);
-}
-
-static void add_number(luaL_Buffer *list, int tag, uint64_t bits)
+static uint8_t *put_number(uint8_t *at, int tag, uint64_t bits)
 {
     uint8_t content[NUMBER];
     for (int i = NUMBER; i-- > 0; bits /= 256)
         content[i] = (uint8_t)(bits % 256);
-    add_field(list, tag, content, NUMBER);
+    return put_field(at, tag, content, NUMBER);
 }
 
-/* The arguments from `first` to `last` as a value list. The buffer stays on the stack. */
-static Slice list_of(lua_State *L, int first, int last, luaL_Buffer *list)
+/* A text that is longer than a list can hold is a value that no option takes. */
+static bool is_text(lua_State *L, int argument)
 {
-    luaL_buffinit(L, list);
-    for (int argument = first; argument <= last; argument++) {
-        if (lua_type(L, argument) == LUA_TSTRING) {
-            Slice text = check_text(L, argument);
-            luaL_argcheck(L, text.length <= LONGEST, argument, "a text has at most 65,535 bytes");
-            add_field(list, TEXT, text.start, text.length);
-        } else if (lua_isinteger(L, argument)) {
-            add_number(list, INTEGER, (uint64_t)lua_tointeger(L, argument));
-        } else if (lua_type(L, argument) == LUA_TNUMBER) {
-            double number = lua_tonumber(L, argument);
-            uint64_t bits;
-            memcpy(&bits, &number, sizeof bits);
-            add_number(list, FLOAT, bits);
-        } else {
-            add_field(list, OTHER, "", 0);
-        }
+    return lua_type(L, argument) == LUA_TSTRING && lua_rawlen(L, argument) <= LONGEST;
+}
+
+static size_t field_length(lua_State *L, int argument)
+{
+    if (lua_type(L, argument) == LUA_TNUMBER)
+        return HEAD + NUMBER;
+    return HEAD + (is_text(L, argument) ? lua_rawlen(L, argument) : 0);
+}
+
+static uint8_t *put_argument(lua_State *L, int argument, uint8_t *at)
+{
+    if (is_text(L, argument))
+        return put_field(at, TEXT, lua_tostring(L, argument), lua_rawlen(L, argument));
+    if (lua_isinteger(L, argument))
+        return put_number(at, INTEGER, (uint64_t)lua_tointeger(L, argument));
+    if (lua_type(L, argument) == LUA_TNUMBER) {
+        double number = lua_tonumber(L, argument);
+        uint64_t bits;
+        memcpy(&bits, &number, sizeof bits);
+        return put_number(at, FLOAT, bits);
     }
-    return added(list);
+    return put_field(at, OTHER, "", 0);
+}
+
+/* So many arguments from `first` on, as a value list. */
+static Slice list_of(lua_State *L, int first, int count, uint8_t small[SMALL])
+{
+    size_t length = 0;
+    uint8_t *start, *end;
+    for (int i = 0; i < count; i++)
+        length += field_length(L, first + i);
+    start = end = memory(L, length, small);
+    for (int i = 0; i < count; i++)
+        end = put_argument(L, first + i, end);
+    return (Slice){start, length};
 }
 
 /* Pushes the values of a list, and gives how many there are. */
@@ -158,6 +214,27 @@ static int push_values(lua_State *L, Slice list)
 
 /* ---- writing */
 
+enum { FLAGS = 0x3F, DEFAULT = 0x1F80 }; /* of MXCSR: what happened so far; the default but for these */
+
+/* Continued writing in the default float environment, on which T of a float depends. */
+static uint64_t write_record(const Writing *writing, uint8_t *record, size_t room, Written *written)
+{
+    const State *from = &writing->from;
+    Slice format = writing->format, list = writing->list;
+    uint64_t answer[6], number;
+    unsigned environment = _mm_getcsr();
+    bool is_default = (environment & ~(unsigned)FLAGS) == DEFAULT;
+    if (!is_default)
+        _mm_setcsr(DEFAULT);
+    number = digribbon_pack_continued(from->order, from->limit, from->length, format.start, format.length, list.start,
+                                      list.length, record, room, answer);
+    if (!is_default)
+        _mm_setcsr(environment);
+    if (number == 0)
+        *written = (Written){{answer[0], answer[1], answer[2]}, answer[3], answer[4], answer[5]};
+    return number;
+}
+
 /*
  * The sum of the c items' sizes in a format that gave 22. All other checks passed, so digits follow each c and the sum
  * is below 2^63.
@@ -171,40 +248,74 @@ static size_t sizes_of_c(Slice format)
     return sum;
 }
 
-/* Plain writing, or continued writing where there is a state. */
-static uint64_t write_record(const State *from, Slice format, Slice list, uint8_t *record, size_t room,
-                             Written *written)
+/*
+ * Which of so many values a refusal is about. Where none is left, the next one. Else the first such that it and those
+ * before it are refused for another reason than that none is left.
+ */
+static int refused_value(const Writing *writing, uint64_t number, int count)
 {
-    uint64_t answer[6], number;
-    if (from == NULL)
-        return digribbon_pack(format.start, format.length, list.start, list.length, record, room, &written->written);
-    number = digribbon_pack_continued(from->order, from->limit, from->length, format.start, format.length,
-                                      list.start, list.length, record, room, answer);
-    if (number == 0)
-        *written = (Written){{answer[0], answer[1], answer[2]}, answer[3], answer[4], answer[5]};
-    return number;
+    int before = 0, position = count;
+    if (number == DIGRIBBON_NO_VALUE_LEFT)
+        return count + 1;
+    while (before + 1 < position) {
+        int middle = before + (position - before) / 2;
+        Writing first = *writing;
+        uint8_t record;
+        uint64_t length;
+        Written written;
+        digribbon_list_after(writing->list.start, writing->list.length, (uint64_t)middle, &length);
+        first.list.length = length;
+        if (write_record(&first, &record, 0, &written) == DIGRIBBON_NO_VALUE_LEFT)
+            before = middle;
+        else
+            position = middle;
+    }
+    return position;
 }
 
-/* Writes by the format, which is argument `at`, the arguments behind it, and pushes the bytes. */
-static Written push_record(lua_State *L, int at, const State *from)
+/* Raises a refusal of writing, where the format is argument `at` and so many values follow. */
+static int refuse_writing(lua_State *L, const Writing *writing, uint64_t number, int at, int count)
 {
-    int last = lua_gettop(L);
+    int value = 0;
+    if (number >= DIGRIBBON_NO_VALUE_LEFT && number <= DIGRIBBON_TEXT_DOES_NOT_FIT)
+        value = refused_value(writing, number, count);
+    if (number == DIGRIBBON_WRONG_KIND && lua_type(L, at + value) == LUA_TSTRING && !is_text(L, at + value))
+        return luaL_argerror(L, at + value, "a text has at most 65,535 bytes");
+    return refuse(L, "pack", number, at + value, value);
+}
+
+/*
+ * Writes arguments by the format, which is argument `at`, from a state, and stores the next one there. No code of Lua
+ * runs between the two.
+ *
+ * An option has at least a byte and takes at most one value, so no more values are looked at than the format has bytes.
+ */
+static Part write_part(lua_State *L, int at, State *state, Small *small)
+{
     Slice format = check_text(L, at);
-    luaL_Buffer values, record;
-    Slice list = list_of(L, at + 1, last, &values);
-    size_t room = list.length + 8 * format.length; /* enough for any item but a c that is longer than its text */
-    uint8_t *start = (uint8_t *)luaL_buffinitsize(L, &record, room);
-    Written written;
-    uint64_t number = write_record(from, format, list, start, room, &written);
-    if (number == 22) {
+    size_t given = (size_t)(lua_gettop(L) - at);
+    int count = (int)(given < format.length ? given : format.length);
+    Slice list = list_of(L, at + 1, count, small->list);
+    size_t room = list.length + 16 * format.length; /* enough but for a c that is longer than its text */
+    uint8_t *record = memory(L, room, small->record);
+    Writing writing = {*state, format, list};
+    Written answer;
+    uint64_t number = write_record(&writing, record, room, &answer);
+    if (number == DIGRIBBON_RESULT_TOO_LONG) {
         room += sizes_of_c(format);
-        start = (uint8_t *)luaL_prepbuffsize(&record, room);
-        number = write_record(from, format, list, start, room, &written);
+        record = memory(L, room, small->record);
+        writing.from = *state;
+        number = write_record(&writing, record, room, &answer);
     }
     if (number != 0)
-        refuse(L, number);
-    luaL_pushresultsize(&record, written.written);
-    return written;
+        refuse_writing(L, &writing, number, at, count);
+    *state = answer.next;
+    return (Part){writing.from, answer, record};
+}
+
+static void push_bytes(lua_State *L, const Part *part)
+{
+    lua_pushlstring(L, (const char *)part->bytes, part->answer.written);
 }
 
 /* ---- the module's functions */
@@ -212,7 +323,10 @@ static Written push_record(lua_State *L, int at, const State *from)
 /* pack(fmt, v1, v2, ...): the record */
 static int pack(lua_State *L)
 {
-    push_record(L, 1, NULL);
+    State state = {0, 1, 0};
+    Small small;
+    Part part = write_part(L, 1, &state, &small);
+    push_bytes(L, &part);
     return 1;
 }
 
@@ -223,9 +337,26 @@ static int packsize(lua_State *L)
     uint64_t size;
     uint64_t number = digribbon_packsize(format.start, format.length, &size);
     if (number != 0)
-        return refuse(L, number);
+        return refuse(L, "packsize", number, 1, 0);
     lua_pushinteger(L, (lua_Integer)size);
     return 1;
+}
+
+/* How long a list of a reading is at most: a value's option is a byte of the format, and the texts lie apart. */
+static size_t list_room(Slice format, Slice data)
+{
+    uint64_t room = (HEAD + NUMBER) * format.length + data.length, bound;
+    if (digribbon_list_bound(format.start, format.length, data.length, &bound) == 0 && bound < room)
+        room = bound;
+    return room;
+}
+
+/* The argument of unpack that a refusal is about. */
+static int refused_argument(uint64_t number)
+{
+    if (number == DIGRIBBON_START_OUTSIDE)
+        return 3;
+    return number < DIGRIBBON_START_OUTSIDE ? 1 : 2;
 }
 
 /* unpack(fmt, s [, pos]): the values, and the position after the last byte read */
@@ -233,17 +364,18 @@ static int unpack(lua_State *L)
 {
     Slice format = check_text(L, 1), data = check_text(L, 2);
     lua_Integer start = luaL_optinteger(L, 3, 1);
-    /* A value's option is a byte of the format, and the texts lie apart in the data. */
-    uint64_t room = (HEAD + NUMBER) * format.length + data.length, bound, answer[2], number;
-    luaL_Buffer values;
-    uint8_t *list;
+    uint8_t small[SMALL], *list = small;
+    uint64_t answer[2];
     int count;
-    if (digribbon_list_bound(format.start, format.length, data.length, &bound) == 0 && bound < room)
-        room = bound;
-    list = (uint8_t *)luaL_buffinitsize(L, &values, room);
-    number = digribbon_unpack(format.start, format.length, data.start, data.length, start, list, room, answer);
+    uint64_t number =
+        digribbon_unpack(format.start, format.length, data.start, data.length, start, list, SMALL, answer);
+    if (number == DIGRIBBON_RESULT_TOO_LONG) {
+        size_t room = list_room(format, data);
+        list = memory(L, room, small);
+        number = digribbon_unpack(format.start, format.length, data.start, data.length, start, list, room, answer);
+    }
     if (number != 0)
-        return refuse(L, number);
+        return refuse(L, "unpack", number, refused_argument(number), 0);
     count = push_values(L, (Slice){list, answer[0]});
     luaL_checkstack(L, 1, "too many results");
     lua_pushinteger(L, (lua_Integer)answer[1]);
@@ -252,25 +384,59 @@ static int unpack(lua_State *L)
 
 static const char *const orders[] = {"<", ">", NULL};
 
+/* Refuses a state that is none, by its limit or its length, which are arguments 2 and 3. */
+static void check_state(lua_State *L, State state)
+{
+    Slice nothing = {(const uint8_t *)"", 0};
+    Writing by_limit = {{state.order, state.limit, 0}, nothing, nothing}, by_length = {state, nothing, nothing};
+    uint8_t record;
+    Written written;
+    uint64_t number = write_record(&by_limit, &record, 0, &written);
+    if (number != 0)
+        refuse(L, "writer", number, 2, 0);
+    number = write_record(&by_length, &record, 0, &written);
+    if (number != 0)
+        refuse(L, "writer", number, 3, 0);
+}
+
 /* writer([order [, limit [, length]]]): a writer at that state, else at the start state */
 static int writer(lua_State *L)
 {
     State from = {(uint64_t)luaL_checkoption(L, 1, "<", orders), (uint64_t)luaL_optinteger(L, 2, 1),
                   (uint64_t)luaL_optinteger(L, 3, 0)};
-    State *state = lua_newuserdatauv(L, sizeof *state, 0);
+    State *state;
+    check_state(L, from);
+    state = lua_newuserdatauv(L, sizeof *state, 0);
     *state = from;
     luaL_setmetatable(L, WRITER);
     return 1;
 }
 
-/* writer:pack(fmt, v1, v2, ...): the part's bytes, how many values it used, how many items it ran */
+/* push_bytes as a function of Lua. */
+static int pushed_bytes(lua_State *L)
+{
+    push_bytes(L, lua_touserdata(L, 1));
+    return 1;
+}
+
+/*
+ * writer:pack(fmt, v1, v2, ...): the part's bytes, how many values it used, how many items it ran
+ *
+ * Where there is no memory for the bytes, the writer goes back to where it was.
+ */
 static int writer_pack(lua_State *L)
 {
     State *state = luaL_checkudata(L, 1, WRITER);
-    Written written = push_record(L, 2, state);
-    *state = written.next;
-    lua_pushinteger(L, (lua_Integer)written.used);
-    lua_pushinteger(L, (lua_Integer)written.items);
+    Small small;
+    Part part = write_part(L, 2, state, &small);
+    lua_pushcfunction(L, pushed_bytes);
+    lua_pushlightuserdata(L, &part);
+    if (lua_pcall(L, 1, 1, 0) != LUA_OK) {
+        *state = part.from;
+        return lua_error(L);
+    }
+    lua_pushinteger(L, (lua_Integer)part.answer.used);
+    lua_pushinteger(L, (lua_Integer)part.answer.items);
     return 3;
 }
 

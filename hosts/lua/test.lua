@@ -1,5 +1,6 @@
 -- Tests of the module, and profiles as users write them. The last line says how many tests passed.
 local digribbon = require "digribbon"
+local testing = require "testing"
 local pack, packsize, unpack = digribbon.pack, digribbon.packsize, digribbon.unpack
 
 local passed = 0
@@ -119,19 +120,56 @@ test("every refusal of formats, values and data", function()
     refused(18, unpack, "<i9", ("\xFF"):rep(8) .. "\0")
     refused(19, unpack, "z", "A")
     refused(20, unpack, "c65536", ("A"):rep(65536))
-    local writer = digribbon.writer("<", 3)
-    refused(21, writer.pack, writer, "")
-    refused(21, writer.pack, digribbon.writer("<", 1, -1), "")
+    refused(21, digribbon.writer, "<", 3)
+    refused(21, digribbon.writer, "<", 1, -1)
 end)
 
-test("a refusal says number, sentence, cause and place", function()
-    local refusal = refused(13, function() return (pack("<i1", 200)) end)
+test("a refusal says number, sentence, cause, value and place", function()
+    local refusal = refused(13, function() return (pack("<i2 i1", 7, 200)) end)
     assert(refusal.sentence == "An integer is out of its option's range.")
-    assert(refusal.cause == "supplier of values")
-    assert(tostring(refusal):find("^test.lua:%d+: refusal 13: An integer is out of its option's range%.$"), tostring(refusal))
-    assert(refused(1, packsize, "q").cause == "profile author")
+    assert(refusal.cause == "supplier of values" and refusal.value == 2)
+    local place, message = tostring(refusal):match("^(test%.lua:%d+: )(.*)$")
+    assert(place and message == "bad argument #3 to 'pack' (refusal 13: An integer is out of its option's range.)")
+    refusal = refused(1, packsize, "q")
+    assert(refusal.cause == "profile author" and refusal.value == nil)
     assert(refused(17, unpack, "b", "").cause == "card data")
-    assert(refused(21, digribbon.writer("<", 3).pack, digribbon.writer("<", 3), "").cause == "host program")
+    assert(refused(21, digribbon.writer, "<", 3).cause == "host program")
+end)
+
+test("a refusal names its argument", function()
+    local function about(argument, name, call, ...)
+        local ok, refusal = pcall(call, ...)
+        assert(not ok and tostring(refusal):find(("bad argument #%d to '%s'"):format(argument, name), 1, true), refusal)
+    end
+    about(1, "packsize", packsize, "z")
+    about(1, "pack", pack, "bq", 1)
+    about(2, "pack", pack, "b")
+    about(4, "pack", pack, "bzb", 1, "A")
+    about(3, "pack", pack, "bz", 1, 2, "left over")
+    about(3, "pack", pack, "zz", "A", "B\0", "C\0")
+    about(1, "unpack", unpack, "!4i3", "ABC")
+    about(2, "unpack", unpack, "bbq", "A")
+    about(2, "unpack", unpack, "z", "A")
+    about(3, "unpack", unpack, "b", "A", 3)
+    about(2, "writer", digribbon.writer, "<", 5)
+    about(3, "writer", digribbon.writer, "<", 4, -1)
+    local writer = digribbon.writer()
+    about(3, "pack", function() writer:pack("bbi1", 1, 2 .. "") end)
+    about(4, "pack", writer.pack, writer, "bbi1", 1, 2 .. "")
+    about(1, "pack", function() writer:pack("q") end)
+end)
+
+test("a refusal names its value among many", function()
+    local values = {}
+    for i = 1, 200 do values[i] = i end
+    for _, wrong in ipairs { 1, 2, 99, 100, 101, 199, 200 } do
+        values[wrong] = "text"
+        assert(refused(12, pack, ("Bx"):rep(200), table.unpack(values)).value == wrong)
+        values[wrong] = wrong
+    end
+    for count = 0, 20 do
+        assert(refused(11, pack, ("B"):rep(21), table.unpack(values, 1, count)).value == count + 1)
+    end
 end)
 
 test("a refusal leaves the writer as it was", function()
@@ -141,11 +179,51 @@ test("a refusal leaves the writer as it was", function()
     same({ ">", 4, 1 }, writer:state())
 end)
 
+test("a finalizer that uses the writer loses no part", function()
+    local writer, written, runs, over = digribbon.writer(), 0, 0, false
+    local function write(...)
+        local length = #writer:pack(...)
+        written = written + length
+    end
+    local function arm()
+        setmetatable({}, { __gc = function()
+            if over then return end
+            runs = runs + 1
+            write("c7", "final")
+            arm()
+        end })
+    end
+    local pause, multiplier = collectgarbage("setpause", 0), collectgarbage("setstepmul", 1000)
+    collectgarbage() -- so that the pause counts from now on
+    arm()
+    for i = 1, 200 do
+        write("b z c9 s2", i, ("A"):rep(i * 10), "", ("B"):rep(i * 10))
+        write("c3000", tostring(i))
+    end
+    over = true
+    collectgarbage("setpause", pause)
+    collectgarbage("setstepmul", multiplier)
+    local _, _, length = writer:state()
+    assert(runs > 100 and length == written, ("%d runs, %d written, %d counted"):format(runs, written, length))
+end)
+
+test("what is taken for a text or a number", function()
+    same({ "\1" }, pack("b", 1.0))
+    refused(12, pack, "b", "1")
+    refused(12, pack, "z", 1)
+    refused(1, packsize, 8)
+    same({ 56, 2 }, unpack("b", 8))
+    same({ 2, 3 }, unpack("b", "\1\2", "2"))
+    same({ 2, 3 }, unpack("b", "\1\2", 2.0))
+    failed("number has no integer representation", unpack, "b", "\1\2", 1.5)
+end)
+
 test("errors that are no refusals", function()
     failed("bad argument #1 to 'digribbon.pack' (string expected", pack)
     failed("bad argument #2 to 'digribbon.unpack' (string expected", unpack, "b", {})
     failed("bad argument #3 to 'digribbon.unpack' (number expected", unpack, "b", "A", "first")
-    failed("a text has at most 65,535 bytes", pack, "bz", 1, ("A"):rep(65536))
+    failed("bad argument #3 to 'digribbon.pack' (a text has at most 65,535 bytes)", pack, "bz", 1, ("A"):rep(65536))
+    same({ "\1" }, pack("b     ", 1, ("A"):rep(65536)))
     failed("invalid option '!'", digribbon.writer, "!")
     failed("digribbon.writer expected", digribbon.writer().pack, "b")
     failed("memory", pack, "c9223372036854775000z", "A", "B")
@@ -164,7 +242,104 @@ test("long records and lists", function()
     local texts = table.pack(unpack(("z"):rep(200), ("\0"):rep(200) .. ("A"):rep(70000)))
     assert(texts.n == 201 and texts[200] == "" and texts[201] == 201)
     same({ ("A"):rep(65535), 65538 }, unpack(">s2", "\xFF\xFF" .. ("A"):rep(65535)))
-    failed("too many results", unpack, ("b"):rep(1 << 21), ("\1"):rep(1 << 21))
+end)
+
+test("too many results end as in Lua's own function", function()
+    for _, count in ipairs { 999900, 999950, 999990, 1 << 21 } do
+        local format, data = ("b"):rep(count), ("\1"):rep(count)
+        local expected, first = pcall(string.unpack, format, data)
+        local ok, given = pcall(unpack, format, data)
+        same({ expected, first }, ok, given)
+    end
+end)
+
+-- What a call gives where no block of more bytes can be had.
+local function limited(longest, call, ...)
+    testing.blocks(math.maxinteger, longest)
+    local results = table.pack(pcall(call, ...))
+    testing.blocks()
+    return table.unpack(results, 1, results.n)
+end
+
+test("memory goes by what is needed", function()
+    local data, values, writer = ("A"):rep(1 << 20), {}, digribbon.writer()
+    for _, format in ipairs { "q", ("b"):rep(50) .. "q", "bi17", "z" } do
+        local ok, refusal = limited(2000, unpack, format, data)
+        assert(not ok and type(refusal) == "table", refusal)
+    end
+    same({ true, 65, 2 }, limited(2000, unpack, "b", data))
+    same({ false, "not enough memory" }, limited(2000, unpack, "c3000", data))
+    same({ false, "not enough memory" }, limited(2000, pack, "c3000", "A"))
+    for i = 1, 10000 do values[i] = i end
+    collectgarbage("stop") -- the first call makes Lua's stack as long as the second needs it
+    for _, call in ipairs { pack, function(...) return (writer:pack(...)) end } do
+        same({ true, "\1" }, limited(math.maxinteger, call, "b", table.unpack(values)))
+        same({ true, "\1" }, limited(2000, call, "b", table.unpack(values)))
+    end
+    collectgarbage("restart")
+end)
+
+test("a lack of memory leaves the writer as it was", function()
+    local long = ("A"):rep(2000)
+    for _, format in ipairs { "b c9 z", "b c9000 z" } do
+        local writer, tries, ok, part = digribbon.writer(), -1, nil, nil
+        writer:pack(">b", 1)
+        repeat
+            tries = tries + 1
+            testing.blocks(tries, math.maxinteger)
+            ok, part = pcall(writer.pack, writer, format, 2, "A", long)
+            testing.blocks()
+            if not ok then
+                assert(part == "not enough memory", part)
+                same({ ">", 1, 1 }, writer:state())
+            end
+        until ok
+        same({ ">", 1, 1 + #part }, writer:state())
+        assert(tries >= 2, tries) -- the list, the record, the bytes as a string
+    end
+    local writer = digribbon.writer()
+    failed("memory", writer.pack, writer, "b c9223372036854775000", 1, "A")
+    same({ "<", 1, 0 }, writer:state())
+end)
+
+---- the float environment
+
+-- Bits of the register MXCSR.
+local DEFAULT, FLAGS = 0x1F80, 0x3F
+local DOWN, UP, TO_ZERO = 0x2000, 0x4000, 0x6000
+local DENORMALS_ARE_ZERO, FLUSH_TO_ZERO = 0x40, 0x8000
+local ALL_TRAPS = -DEFAULT
+
+test("the float environment has no influence, and stays", function()
+    local expected = {
+        { "<T", -0.5, ("\xFF"):rep(8) },
+        { "<T", -5e-324, ("\xFF"):rep(8) },
+        { "<T", 5e-324, ("\0"):rep(8) },
+        { "<T", 1 / 0, ("\0"):rep(8) },
+        { "<T", -1 / 0, ("\0"):rep(8) },
+        { "<T", -1e300, string.pack("<d", 0) },
+        { "<T", 2.5, "\2" .. ("\0"):rep(7) },
+        { "<j", 5e-324, "\1" .. ("\0"):rep(7) },
+        { "<i4", 5e-324, 12 },
+        { "<f", 1152921573326323713, "\0\0\x80\x5D" },
+        { "<f", 16777217.0, "\0\0\x80\x4B" },
+        { "<d", 9007199254740993, "\0\0\0\0\0\0\x40\x43" },
+        { "<i8", 2.0 ^ 53, "\0\0\0\0\0\0\x20\0" },
+    }
+    local others = { DOWN, UP, TO_ZERO, DENORMALS_ARE_ZERO, FLUSH_TO_ZERO, DENORMALS_ARE_ZERO + FLUSH_TO_ZERO + DOWN, ALL_TRAPS,
+        ALL_TRAPS + UP }
+    local writer = digribbon.writer()
+    for _, other in ipairs(others) do
+        for _, case in ipairs(expected) do
+            for _, call in ipairs { pack, function(...) return (writer:pack(...)) end } do
+                testing.environment(DEFAULT + other)
+                local ok, given = pcall(call, case[1], case[2])
+                local after = testing.environment(DEFAULT)
+                assert(after & ~FLAGS == DEFAULT + other, "the environment is another after the call")
+                same({ case[3] }, ok and given or given.number)
+            end
+        end
+    end
 end)
 
 test("refusals keep no memory", function()

@@ -1,4 +1,5 @@
-//! What a record costs that is written in parts, by the calls under C names and by the Rust crate's writer.
+//! What a record costs that is written in parts, by the calls under C names and by the writers of the Rust crate and of the
+//! Lua module.
 
 use super::workloads::mixed_items;
 use crate::ours::{self, START};
@@ -11,7 +12,7 @@ pub const ITEMS: usize = 1000;
 /// In so many parts it is written.
 pub const COUNTS: [usize; 4] = [1, 10, 100, 1000];
 
-/// How the parts are written. A call walks over the list that it is lent.
+/// How the parts are written here. (By the Lua module, lua.rs writes them.) A call walks over the list that it is lent.
 #[derive(Clone, Copy)]
 pub enum Way {
     /// Each part is lent all values that are left.
@@ -38,6 +39,8 @@ impl Way {
 pub struct Parts {
     pub count: usize,
     formats: Vec<String>,
+    /// The values that each part takes.
+    values: Vec<Vec<Value>>,
     list: Vec<u8>,
 }
 
@@ -49,14 +52,21 @@ impl Parts {
     fn new(count: usize) -> Parts {
         let (items, values): (Vec<_>, Vec<Option<Value>>) = mixed_items(ITEMS, true).into_iter().unzip();
         let formats = items.chunks(ITEMS / count).map(<[&str]>::concat).collect();
-        let values: Vec<Value> = values.into_iter().flatten().collect();
-        Parts { count, formats, list: encode(&values) }
+        let values: Vec<Vec<Value>> =
+            values.chunks(ITEMS / count).map(|values| values.iter().flatten().cloned().collect()).collect();
+        let list = encode(&values.concat());
+        Parts { count, formats, values, list }
+    }
+
+    /// Each part's format, and the values that it takes.
+    pub fn with_values(&self) -> impl Iterator<Item = (&str, &[Value])> {
+        self.formats.iter().map(String::as_str).zip(self.values.iter().map(Vec::as_slice))
     }
 
     /// The record by plain writing.
-    fn record(&self) -> Vec<u8> {
+    pub fn record(&self) -> Vec<u8> {
         let format = self.formats.concat();
-        let mut record = vec![0; self.list.len() + 8 * format.len()];
+        let mut record = vec![0; self.list.len() + 16 * format.len()];
         let length = ours::pack(format.as_bytes(), &self.list, &mut record).expect("the record is accepted");
         record.truncate(length as usize);
         record

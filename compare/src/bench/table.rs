@@ -76,15 +76,16 @@ fn growth(text: &mut String, rows: &[Row]) {
 }
 
 /// A row for each number of parts.
-fn in_parts(text: &mut String, counts: &[[f64; 3]]) {
+fn in_parts(text: &mut String, counts: &[([f64; 3], f64)]) {
     let items = grouped(parts::ITEMS as u64);
     let ways = Way::ALL.map(Way::name).join(" | ");
     let _ = write!(
         text,
-        "\nInstructions to write a record of {items} mixed items in parts:\n\n| parts | {ways} |\n|---|---|---|---|\n"
+        "\nInstructions to write a record of {items} mixed items in parts:\n\n\
+         | parts | {ways} | Lua's `writer:pack` |\n|---|---|---|---|---|\n"
     );
-    for (count, costs) in parts::COUNTS.iter().zip(counts) {
-        let costs = costs.map(|cost| grouped(cost.round() as u64)).join(" | ");
+    for (count, ([rest, takeable, writer], lua)) in parts::COUNTS.iter().zip(counts) {
+        let costs = [rest, takeable, writer, lua].map(|cost| grouped(cost.round() as u64)).join(" | ");
         let _ = writeln!(text, "| {} | {costs} |", grouped(*count as u64));
     }
 }

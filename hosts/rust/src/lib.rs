@@ -34,7 +34,8 @@
 //!
 //! Calls share nothing, so they may run in any number of threads. They assume the float environment that Rust assumes:
 //! rounding to nearest, no traps, and subnormal numbers that are not taken for zeros. Code that changes it for itself,
-//! as C or assembly can, restores it before it calls.
+//! as C or assembly can, restores it before it calls. Otherwise T of a float that equals no integer can write other
+//! bytes, or end the process where traps are on; all else is the same in every environment.
 
 #[cfg(not(target_pointer_width = "64"))]
 compile_error!("Digribbon is for hosts with pointers of 64 bits.");

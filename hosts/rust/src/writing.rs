@@ -24,7 +24,7 @@ impl<'a> Writing<'a> {
 
     /// Writes behind what `record` has.
     pub(crate) fn append_to(self, record: &mut Vec<u8>) -> Result<Continued, Error> {
-        let guess = || self.list.len().saturating_add(self.format.len().saturating_mul(8));
+        let guess = || self.list.len().saturating_add(self.format.len().saturating_mul(16));
         let call = |room: &mut Room| self.call(self.list, room).map(|answer| (answer.written, answer));
         room::append(record, self.format.len(), guess, call).map_err(|refusal| self.error(refusal))
     }

@@ -1,4 +1,4 @@
-//! The refusals here, in ../include/digribbon.h and in docs/REFUSALS.md are the same.
+//! The refusals here, in ../include/digribbon.h and in docs/REFUSALS.md are the same, by name too in the first two.
 
 use digribbon::{Error, Refusal};
 use std::fs;
@@ -27,11 +27,26 @@ fn docs_have_the_same_table() {
     assert_eq!(numbered("../../docs/REFUSALS.md", "| "), table.collect::<Vec<_>>());
 }
 
+/// `TextAbove65535` as `DIGRIBBON_TEXT_ABOVE_65535`.
+fn name_in_c(refusal: Refusal) -> String {
+    let mut name = "DIGRIBBON".to_string();
+    let mut in_number = false;
+    for character in format!("{refusal:?}").chars() {
+        let is_digit = character.is_ascii_digit();
+        if character.is_ascii_uppercase() || is_digit && !in_number {
+            name.push('_');
+        }
+        in_number = is_digit;
+        name.push(character.to_ascii_uppercase());
+    }
+    name
+}
+
 #[test]
 fn header_has_the_same_table() {
     let table = Refusal::ALL.iter().map(|refusal| {
         let (number, sentence, cause) = (refusal.number(), refusal.sentence(), refusal.cause());
-        format!("refusal({number}, \"{cause}\", \"{sentence}\")")
+        format!("refusal({number}, {}, \"{cause}\", \"{sentence}\")", name_in_c(*refusal))
     });
     let header = numbered("../include/digribbon.h", "refusal(");
     let header = header.iter().map(|line| line.trim_end_matches('\\').trim().to_string());
