@@ -57,12 +57,12 @@ BOXES = [
     ("proved", 366, 60, 190, 58, "agreement", ["the claims, as contracts;", "over measure, write, read"]),
     ("proved", 696, 60, 110, 58, "line", ["the line printed"]),
     ("proved", 846, 60, 114, 58, "packsize", ["the program"]),
-    ("leaf", 186, 452, 118, 104, "align", ["padding, limits,", "lengths; for", "format, measure,", "plan, fetch, write"]),
+    ("leaf", 186, 452, 118, 104, "align", ["the state, padding;", "for format,", "measure, plan,", "fetch, write, read"]),
     ("leaf", 318, 452, 118, 104, "values", ["fields of a value", "list; for numbers,", "plan, write, read,", "digribbon"]),
     ("leaf", 450, 452, 118, 104, "numbers", ["a value as integer", "or as number;", "for plan"]),
     ("leaf", 582, 452, 118, 104, "single", ["f64 to f32, and", "back; for plan,", "numbers, fetch"]),
     ("leaf", 714, 452, 118, 104, "coder", ["integers as bytes;", "for values, plan,", "numbers, position,", "fetch, write"]),
-    ("leaf", 846, 452, 114, 104, "position", ["starts, offsets,", "positions;", "for read"]),
+    ("leaf", 846, 452, 114, 104, "position", ["starts, offsets,", "positions; for", "fetch, read"]),
 ]
 
 # from, to

@@ -1,4 +1,6 @@
-// The state: what a setting makes of it, the zeros before an item, and the state after it.
+// The state: the first one, what a setting makes of it, its offset in reading, the zeros before an item, and the state after it.
+use definition::Field;
+use definition::Offset;
 use definition::Setting;
 use definition::State;
 ghost use mathlib.Core.Path.{_≡_};
@@ -6,6 +8,7 @@ ghost use Prim.Native.Nat.{_+_, _-_, _^_, _≤_, min};
 ghost use lib.Dec.{leb};
 ghost use mathlib.Core.Bool.{_&&_};
 ghost use Rattle.definition.specs.States as states;
+ghost use Rattle.definition.specs.Reading.{offsetIn, atOffset};
 ghost use Rattle.definition.specs.Ops.{isPower};
 ghost use Rattle.definition.specs.Calls.{atMost63};
 ghost use Rattle.align.specs.Amounts.{amountOf, stateOf};
@@ -24,6 +27,46 @@ pub enum Next {
 
 // The greatest length.
 pub const MAX_LENGTH: u64 = 0x7fff_ffff_ffff_ffff;
+
+// The start state.
+pub fn start() -> State
+    ensures { λ r. ⌜ r ≡ states.start ⌝ }
+{
+    State {
+        big: false,
+        limit: 1,
+        length: 0,
+    }
+}
+
+// The same state, made of its fields: they stay in registers where a loop takes it over, which for `s = t` they don't.
+pub fn same(s: State) -> State
+    ensures { λ r. ⌜ r ≡ s ⌝ }
+{
+    State {
+        big: s.big,
+        limit: s.limit,
+        length: s.length,
+    }
+}
+
+// The state at an offset in the data, which in reading is its length.
+pub fn at_offset(s: State, o: Offset) -> State
+    ensures { λ r. ⌜ r ≡ atOffset s o ⌝ }
+{
+    State {
+        big: s.big,
+        limit: s.limit,
+        length: o.0,
+    }
+}
+
+// The offset in the data of a state in reading.
+pub fn offset_in(s: State) -> Offset
+    ensures { λ r. ⌜ r ≡ offsetIn s ⌝ }
+{
+    Offset(s.length)
+}
 
 // The state after a setting.
 pub fn set(s: State, x: Setting) -> State
@@ -65,6 +108,16 @@ pub fn is_sound(s: State) -> bool
         s.length <= MAX_LENGTH
     } else {
         false
+    }
+}
+
+// The natural alignment of a field: of a number its size, and 1 of what doesn't align.
+pub fn natural(f: Field) -> u64
+    ensures { λ r. ⌜ r ≡ states.natural f ⌝ }
+{
+    match f {
+        Field::Number(_, size) => size,
+        Field::Chars(_) | Field::ZeroEnded | Field::Counted(_) => 1,
     }
 }
 

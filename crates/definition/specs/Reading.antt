@@ -15,6 +15,7 @@ use Rattle.definition.specs.Writing.{Place, place}
 use Rattle.definition.specs.declared.Op.{Op}
 use Rattle.definition.specs.declared.Op.the-variants.{Blank, Set, Pad, Put}
 use Rattle.definition.specs.declared.Field.{Field}
+use Rattle.definition.specs.declared.State.{State}
 use Rattle.definition.specs.declared.Offset.{Offset}
 use Rattle.definition.specs.declared.Position.{Position}
 
@@ -30,7 +31,14 @@ abbrev pub offsetOf : ℤ → ℕ → Checked Offset
 offsetOf (pos p) len = require (leb 1 p && leb p (len + 1)) 16 >> accepted (offset (p - 1))
 offsetOf (negsuc k) len = require (ltb k len) 16 >> accepted (offset (len - suc k))
 
--- "Alignment counts from the data's first byte": the state's length is the offset in the data, and what is left are the bytes from there.
+-- "Alignment counts from the data's first byte": the state's length is the offset in the data
+abbrev pub offsetIn : State → Offset
+offsetIn s = offset (s .length)
+
+abbrev pub atOffset : State → Offset → State
+atOffset s o = state (s .big) (s .limit) (o .0)
+
+-- the place n bytes on; what is left are the bytes from there
 abbrev pub skipped : Place ℕ → ℕ → Place ℕ
 skipped r n = place (further (r .state) n) (drop n (r .left))
 
@@ -61,11 +69,11 @@ reading r is = run readItem [] _++_ r is
 
 -- a format read from an offset of the data, in the start state's order and limit
 abbrev pub readFrom : List ℕ → List ℕ → Offset → Checked (Place ℕ × List Value)
-readFrom f d o = reading (place (state (start .big) (start .limit) (o .0)) (drop (o .0) d)) (items f)
+readFrom f d o = reading (place (atOffset start o) (drop (o .0) d)) (items f)
 
 -- the values of a format in data, from a start, and the position after the last byte read: 16 "before all items"
 unfoldable pub read : List ℕ → List ℕ → ℤ → Checked (List Value × Position)
 read f d p = do
   o ← offsetOf p (length d)
   r ← readFrom f d o
-  accepted (r .1, positionOf (offset (r .0 .state .length)))
+  accepted (r .1, positionOf (offsetIn (r .0 .state)))

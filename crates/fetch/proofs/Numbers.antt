@@ -21,13 +21,15 @@ use Rattle.definition.specs.Values.{Value, integer, float}
 use Rattle.definition.specs.Fields.{first, number, unsigned, valueBy, decode}
 use Rattle.definition.specs.declared.Kind.{Kind}
 use Rattle.definition.specs.declared.Kind.the-variants.{SmallSigned, SmallUnsigned, Signed, Unsigned, LuaInteger, LuaUnsigned, Size, Single, Double}
+use Rattle.definition.specs.declared.Offset.{Offset}
+use Rattle.definition.specs.declared.Field.{Field}
 use Rattle.definition.specs.declared.Field.the-variants as Field
 use Rattle.definition.proofs.Kind.{the-type}
 use Rattle.definition.proofs.Numbers.{validSize}
 use Rattle.coder.specs.Digits.{lowBytes}
 use Rattle.coder.specs.Numbers.{unsignedAt, signedAt}
 use Rattle.definition.proofs.Bytes.{number-is}
-use Rattle.fetch.specs.Readings.{valueOf, Inside, Decodes}
+use Rattle.fetch.specs.Readings.{from, valueOf, Inside, Decodes}
 use Rattle.fetch.specs.declared.decode.Reading.{Reading}
 use Rattle.fetch.specs.declared.decode.Reading.the-variants.{Integer, Float}
 use Rattle.fetch.specs.declared.decode.Decoded.{Decoded}
@@ -53,37 +55,47 @@ decode-number : (o : Bool) (k : Kind) (n : ℕ) (s : List ℕ) → decode o (Fie
 unfolding decode
 decode-number o k n s = sym (bind-bind (number o n s) (λ r. valueBy k n (r .0) (r .1)) (λ v. accepted (v, n)))
 
-module _ (o : Bool) (n at : ℕ) (d : List ℕ) where
-  pub number-short : (k : Kind) → length d - at < n → Decodes d at (decode o (Field.Number k n) (drop at d)) (Decoded.Refused 17)
+-- the integer of an unsigned one
+abbrev asInteger : Checked ℕ → Checked Value
+asInteger c = c >>= λ w. accepted (integer (signed 8 w))
+
+-- at an offset of the data d, n bytes, in the byte order o
+module _ (d : List ℕ) (at : Offset) (o : Bool) (n : ℕ) where
+  pub number-short : (k : Kind) → length d - at .0 < n → Decodes d at o (Field.Number k n) (Decoded.Refused 17)
   unfolding decode number
-  number-short k h = record { says = rw (first-short n at d h); inside = tt }
+  number-short k h = record { says = rw (first-short n (at .0) d h); inside = tt }
 
-  number-refused : (k : Kind) (j : ℕ) → refused j ≡ numberAt o k n (drop at d) → Decodes d at (decode o (Field.Number k n) (drop at d)) (Decoded.Refused j)
-  number-refused k j e = record { says = rw (decode-number o k n (drop at d), ← e); inside = tt }
+  number-refused : (k : Kind) {j : ℕ} → refused j ≡ numberAt o k n (from d at) → Decodes d at o (Field.Number k n) (Decoded.Refused j)
+  number-refused k e = record { says = rw (decode-number o k n (from d at), ← e); inside = tt }
 
-  number-read : (k : Kind) (v : Value) (r : Reading) → at + n ≤ length d → accepted v ≡ numberAt o k n (drop at d) → valueOf d r ≡ v → Inside d r → Decodes d at (decode o (Field.Number k n) (drop at d)) (Decoded.Read r n)
-  number-read k v r h e f i = record { says = rw (decode-number o k n (drop at d), ← e, f); inside = (i, h) }
+  number-read : (k : Kind) (v : Value) (r : Reading) → at .0 + n ≤ length d → accepted v ≡ numberAt o k n (from d at)
+      → valueOf d r ≡ v → Inside d r → Decodes d at o (Field.Number k n) (Decoded.Read r n)
+  number-read k v r h e f i = record { says = rw (decode-number o k n (from d at), ← e, f); inside = (i, h) }
 
-  pub signed-wide : refused 18 ≡ signedAt o n (drop at d) → Decodes d at (decode o (Field.Number Signed n) (drop at d)) (Decoded.Refused 18)
-  signed-wide e = number-refused Signed 18 e
+  pub signed-wide : refused 18 ≡ signedAt o n (from d at) → Decodes d at o (Field.Number Signed n) (Decoded.Refused 18)
+  signed-wide e = number-refused Signed e
 
-  pub signed-read : (y z : ℤ) → y ≡ z → at + n ≤ length d → accepted (integer z) ≡ signedAt o n (drop at d) → Decodes d at (decode o (Field.Number Signed n) (drop at d)) (Decoded.Read (Integer y) n)
-  signed-read y z q h e = number-read Signed (integer z) (Integer y) h e (rw q) tt
+  pub signed-read : {y z : ℤ} → y ≡ z → at .0 + n ≤ length d → accepted (integer z) ≡ signedAt o n (from d at)
+      → Decodes d at o (Field.Number Signed n) (Decoded.Read (Integer y) n)
+  signed-read q h e = number-read Signed _ (Integer _) h e (ap integer q) tt
 
-  unsigned-value : unsignedAt o n (drop at d) >>= (λ w. accepted (integer (signed 8 w))) ≡ numberAt o Unsigned n (drop at d)
-  unsigned-value = bind-bind (number o n (drop at d)) (λ r. unsigned (r .0) (r .1)) (λ w. accepted (integer (signed 8 w)))
+  unsigned-value : asInteger (unsignedAt o n (from d at)) ≡ numberAt o Unsigned n (from d at)
+  unsigned-value = bind-bind (number o n (from d at)) (λ r. unsigned (r .0) (r .1)) (λ w. accepted (integer (signed 8 w)))
 
-  pub unsigned-wide : refused 18 ≡ unsignedAt o n (drop at d) → Decodes d at (decode o (Field.Number Unsigned n) (drop at d)) (Decoded.Refused 18)
-  unsigned-wide e = number-refused Unsigned 18 (ap (λ (c : Checked ℕ). c >>= λ w. accepted (integer (signed 8 w))) e ∙ unsigned-value)
+  pub unsigned-wide : refused 18 ≡ unsignedAt o n (from d at) → Decodes d at o (Field.Number Unsigned n) (Decoded.Refused 18)
+  unsigned-wide e = number-refused Unsigned (ap asInteger e ∙ unsigned-value)
 
-  pub unsigned-read : (y : ℤ) (w : ℕ) → y ≡ signed 8 w → at + n ≤ length d → accepted w ≡ unsignedAt o n (drop at d) → Decodes d at (decode o (Field.Number Unsigned n) (drop at d)) (Decoded.Read (Integer y) n)
-  unsigned-read y w q h e = number-read Unsigned (integer (signed 8 w)) (Integer y) h (ap (λ (c : Checked ℕ). c >>= λ u. accepted (integer (signed 8 u))) e ∙ unsigned-value) (rw q) tt
+  pub unsigned-read : {y : ℤ} (w : ℕ) → y ≡ signed 8 w → at .0 + n ≤ length d → accepted w ≡ unsignedAt o n (from d at)
+      → Decodes d at o (Field.Number Unsigned n) (Decoded.Read (Integer y) n)
+  unsigned-read w q h e = number-read Unsigned (integer (signed 8 w)) (Integer _) h (ap asInteger e ∙ unsigned-value) (ap integer q) tt
 
-  pub single-read : (b u : ℕ) → b ≡ fromSingle u → u ≡ total (lowBytes o n (drop at d)) → at + n ≤ length d → Decodes d at (decode o (Field.Number Single n) (drop at d)) (Decoded.Read (Float b) n)
-  single-read b u q e h = number-read Single (float (fromSingle u)) (Float b) h (rw (number-is o n at d h, e)) (rw q) tt
+  pub single-read : {b u : ℕ} → b ≡ fromSingle u → u ≡ total (lowBytes o n (from d at)) → at .0 + n ≤ length d
+      → Decodes d at o (Field.Number Single n) (Decoded.Read (Float b) n)
+  single-read {b} {u} q e h = number-read Single (float (fromSingle u)) (Float b) h (rw (number-is o n (at .0) d h, e)) (rw q) tt
 
-  pub double-read : (b : ℕ) → b ≡ total (lowBytes o n (drop at d)) → at + n ≤ length d → Decodes d at (decode o (Field.Number Double n) (drop at d)) (Decoded.Read (Float b) n)
-  double-read b e h = number-read Double (float b) (Float b) h (rw (number-is o n at d h, e)) refl tt
+  pub double-read : {b : ℕ} → b ≡ total (lowBytes o n (from d at)) → at .0 + n ≤ length d
+      → Decodes d at o (Field.Number Double n) (Decoded.Read (Float b) n)
+  double-read {b} e h = number-read Double (float b) (Float b) h (rw (number-is o n (at .0) d h, e)) refl tt
 
 -- ---- by the kind
 abbrev KindOf : List ℕ → Kind → Type 0
@@ -124,14 +136,14 @@ unsigned-kind Double h = absurd (miss unsigneds 6 tt h)
 unsigned-kind Signed h = absurd (miss unsigneds 7 tt h)
 unsigned-kind Unsigned h = λ o n s. refl
 
-module _ (o : Bool) (n at : ℕ) (d : List ℕ) (k j : Kind) (r : Decoded) where
+module _ {d : List ℕ} {at : Offset} {o : Bool} {n : ℕ} {k j : Kind} {r : Decoded} where
   -- what one kind reads, another reads that is read alike
-  pub alike : Alike j k → Decodes d at (decode o (Field.Number j n) (drop at d)) r → Decodes d at (decode o (Field.Number k n) (drop at d)) r
-  alike a p = subst (λ (c : Checked (Value × ℕ)). Decodes d at c r) (a o n (drop at d)) p
+  pub alike : Alike j k → Decodes d at o (Field.Number j n) r → Decodes d at o (Field.Number k n) r
+  alike a p = record { says = p .says ∙ a o n (from d at); inside = p .inside }
 
   -- a kind of the fixed size m
-  pub fixed : (m : ℕ) → k ≡ j → n ≡ m → Decodes d at (decode o (Field.Number j m) (drop at d)) r → Decodes d at (decode o (Field.Number k n) (drop at d)) r
-  fixed m e q p = rw (e, q) p
+  pub fixed : {m : ℕ} → k ≡ j → n ≡ m → Decodes d at o (Field.Number j m) r → Decodes d at o (Field.Number k n) r
+  fixed e q p = rw (e, q) p
 
 pub single-size : (k : Kind) (n : ℕ) → T (validSize k n) → k ≡ Single → n ≡ 4
 single-size k n h e = eqb→eq n 4 (subst (λ (x : Kind). T (validSize x n)) e h)
@@ -140,5 +152,9 @@ pub double-size : (k : Kind) (n : ℕ) → T (validSize k n) → k ≡ Double �
 double-size k n h e = eqb→eq n 8 (subst (λ (x : Kind). T (validSize x n)) e h)
 
 -- by what a call answered
-pub as-told : {d : List ℕ} {at : ℕ} {c : Checked (Value × ℕ)} {x y : Decoded} → x ≡ y → Decodes d at c x → Decodes d at c y
-as-told {d} {at} {c} e p = subst (Decodes d at c) e p
+pub as-told : {d : List ℕ} {at : Offset} {o : Bool} {f : Field} {x y : Decoded} → x ≡ y → Decodes d at o f x → Decodes d at o f y
+as-told {d} {at} {o} {f} e p = subst (Decodes d at o f) e p
+
+-- by the variant
+pub of-field : {d : List ℕ} {at : Offset} {o : Bool} {f g : Field} {x : Decoded} → f ≡ g → Decodes d at o g x → Decodes d at o f x
+of-field e p = rw e p

@@ -11,9 +11,11 @@ use borrow.Author.Tests.{le-leb, lt-leb, lt-ltb, le-ltb, eq-eqb, ne-eqb}
 use Rattle.definition.specs.Answers.{Checked, refused, accepted, _>>=_}
 use Rattle.definition.specs.Values.{Value, text}
 use Rattle.definition.specs.Fields.{first, short, upToZero, number, unsigned, decode}
+use Rattle.definition.specs.Reading.{offset}
+use Rattle.definition.specs.declared.Offset.{Offset}
 use Rattle.definition.specs.declared.Field.the-variants as Field
 use Rattle.coder.specs.Numbers.{unsignedAt}
-use Rattle.fetch.specs.Readings.{Decodes, ZeroFrom}
+use Rattle.fetch.specs.Readings.{from, Within, Decodes, ZeroFrom}
 use Rattle.fetch.specs.declared.decode.Reading.{Reading}
 use Rattle.fetch.specs.declared.decode.Reading.the-variants.{Text}
 use Rattle.fetch.specs.declared.decode.Decoded.the-variants as Decoded
@@ -34,18 +36,18 @@ module _ (n at : ℕ) (d : List ℕ) (h : at + n ≤ length d) where
   long-is l = rw (lt-leb (length (take n (drop at d))) 65535 (rw part-length l))
 
 -- ---- c
-module _ (n at : ℕ) (d : List ℕ) (o : Bool) where
-  pub chars-short : length d - at < n → Decodes d at (decode o (Field.Chars n) (drop at d)) (Decoded.Refused 17)
+module _ (d : List ℕ) (at : Offset) (n : ℕ) (o : Bool) where
+  pub chars-short : length d - at .0 < n → Decodes d at o (Field.Chars n) (Decoded.Refused 17)
   unfolding decode
-  chars-short h = record { says = rw (first-short n at d h); inside = tt }
+  chars-short h = record { says = rw (first-short n (at .0) d h); inside = tt }
 
-  pub chars-long : at + n ≤ length d → 65535 < n → Decodes d at (decode o (Field.Chars n) (drop at d)) (Decoded.Refused 20)
+  pub chars-long : at .0 + n ≤ length d → 65535 < n → Decodes d at o (Field.Chars n) (Decoded.Refused 20)
   unfolding decode
-  chars-long h l = record { says = rw (first-is n at d h, long-is n at d h l); inside = tt }
+  chars-long h l = record { says = rw (first-is n (at .0) d h, long-is n (at .0) d h l); inside = tt }
 
-  pub chars-read : at + n ≤ length d → n ≤ 65535 → Decodes d at (decode o (Field.Chars n) (drop at d)) (Decoded.Read (Text at n) n)
+  pub chars-read : at .0 + n ≤ length d → n ≤ 65535 → Decodes d at o (Field.Chars n) (Decoded.Read (Text at n) n)
   unfolding decode
-  chars-read h l = record { says = rw (first-is n at d h, short-is n at d h l); inside = ((h, l), h) }
+  chars-read h l = record { says = rw (first-is n (at .0) d h, short-is n (at .0) d h l); inside = ((h, l), h) }
 
 -- ---- z
 
@@ -61,76 +63,80 @@ before-none : (c : Checked (List ℕ)) → before [] c ≡ c
 before-none (refused k) = refl
 before-none (accepted s) = refl
 
--- no zero stands from `at` on and before i
-pub record NoZero (d : List ℕ) (at i : ℕ) : Type 0 where
-  pub same : upToZero (drop at d) ≡ before (take (i - at) (drop at d)) (upToZero (drop i d))
-  pub from : at ≤ i
+-- no zero stands from `at` on and before the index i
+pub record NoZero (d : List ℕ) (at : Offset) (i : ℕ) : Type 0 where
+  pub same : upToZero (from d at) ≡ before (take (i - at .0) (from d at)) (upToZero (drop i d))
+  pub behind : at .0 ≤ i
   pub within : i ≤ length d
 
-pub no-zero-yet : (d : List ℕ) (at : ℕ) → at ≤ length d → NoZero d at at
+pub no-zero-yet : (d : List ℕ) (at : Offset) → Within d at → NoZero d at (at .0)
 no-zero-yet d at h =
-    let e : at - at ≡ 0 = omega arith in
-    record { same = rw e (sym (before-none (upToZero (drop at d)))); from = omega arith; within = h }
+    let e : at .0 - at .0 ≡ 0 = omega arith in
+    record { same = rw e (sym (before-none (upToZero (from d at)))); behind = omega arith; within = h }
 
-module _ (d : List ℕ) (at i : ℕ) (z : NoZero d at i) where
-  next : (h : i < length d) → take (i + 1 - at) (drop at d) ≡ take (i - at) (drop at d) ++ (getD d i 0 ∷ [])
+module _ {d : List ℕ} {at : Offset} {i : ℕ} (z : NoZero d at i) where
+  -- what stands before i
+  abbrev front : List ℕ
+  front = take (i - at .0) (from d at)
+
+  next : i < length d → take (i + 1 - at .0) (from d at) ≡ front ++ (getD d i 0 ∷ [])
   next h =
-      let e : i + 1 - at ≡ (i - at) + 1 = omega arith in
-      let f : at + (i - at) ≡ i = omega arith in
-      rw (e, add-one (i - at), take-suc (drop at d) (i - at) 0 (omega (arith, length-drop at d)), getD-drop at d (i - at) 0, f)
+      let e : i + 1 - at .0 ≡ (i - at .0) + 1 = omega arith in
+      let f : at .0 + (i - at .0) ≡ i = omega arith in
+      let l : i - at .0 < length (from d at) = omega (arith, length-drop (at .0) d) in
+      rw (e, add-one (i - at .0), take-suc (from d at) (i - at .0) 0 l, getD-drop (at .0) d (i - at .0) 0, f)
 
   other-byte : i < length d → (getD d i 0 ≡ 0 → ⊥) → upToZero (drop i d) ≡ before (getD d i 0 ∷ []) (upToZero (drop (i + 1) d))
   other-byte h ne = rw (add-one i, drop-cons d i 0 h, ne-eqb (getD d i 0) 0 ne)
 
   pub no-zero-more : i < length d → (getD d i 0 ≡ 0 → ⊥) → NoZero d at (i + 1)
-  no-zero-more h ne =
-      let t : List ℕ = take (i - at) (drop at d) in
-      record {
-        same = z .same
-            ∙ ap (before t) (other-byte h ne)
-            ∙ before-before t (getD d i 0 ∷ []) (upToZero (drop (i + 1) d))
-            ∙ ap (λ (u : List ℕ). before u (upToZero (drop (i + 1) d))) (sym (next h));
-        from = omega arith;
-        within = omega arith;
-      }
+  no-zero-more h ne = record {
+    same = z .same
+        ∙ ap (before front) (other-byte h ne)
+        ∙ before-before front (getD d i 0 ∷ []) (upToZero (drop (i + 1) d))
+        ∙ ap (λ (u : List ℕ). before u (upToZero (drop (i + 1) d))) (sym (next h));
+    behind = omega arith;
+    within = omega arith;
+  }
 
-  pub zero-here : i < length d → getD d i 0 ≡ 0 → ZeroFrom d at i
+  pub zero-here : i < length d → getD d i 0 ≡ 0 → ZeroFrom d at (offset i)
   zero-here h e = record {
     says = z .same
-        ∙ ap (λ (s : List ℕ). before (take (i - at) (drop at d)) (upToZero s)) (drop-cons d i 0 h)
-        ∙ rw (eq-eqb (getD d i 0) 0 e, append-nil (take (i - at) (drop at d)), lt-ltb i (length d) h);
-    from = z .from;
+        ∙ ap (λ (s : List ℕ). before front (upToZero s)) (drop-cons d i 0 h)
+        ∙ rw (eq-eqb (getD d i 0) 0 e, append-nil front, lt-ltb i (length d) h);
+    behind = z .behind;
     within = z .within;
   }
 
-  pub zero-nowhere : length d ≤ i → ZeroFrom d at i
+  pub zero-nowhere : length d ≤ i → ZeroFrom d at (offset i)
   zero-nowhere h = record {
     says = z .same ∙ rw (drop-of-length-le d {i = i} h, le-ltb i (length d) h);
-    from = z .from;
+    behind = z .behind;
     within = z .within;
   }
 
-module _ (d : List ℕ) (at r : ℕ) (z : ZeroFrom d at r) (o : Bool) where
-  pub zero-missing : r ≡ length d → Decodes d at (decode o Field.ZeroEnded (drop at d)) (Decoded.Refused 19)
+module _ {d : List ℕ} {at r : Offset} (z : ZeroFrom d at r) (o : Bool) where
+  pub zero-missing : length d - r .0 ≡ 0 → Decodes d at o Field.ZeroEnded (Decoded.Refused 19)
   unfolding decode
-  zero-missing e = record { says = rw (z .says, le-ltb r (length d) (omega arith)); inside = tt }
+  zero-missing e = record { says = rw (z .says, le-ltb (r .0) (length d) (omega arith)); inside = tt }
 
-  module _ (h : (r ≡ length d) → ⊥) where
-    inside-of : at + (r - at) ≤ length d
-    inside-of = omega (arith, z .from, z .within)
+  -- the bytes before the zero
+  module _ (h : (length d - r .0 ≡ 0) → ⊥) (n : ℕ) (is : n ≡ r .0 - at .0) where
+    inside-of : at .0 + n ≤ length d
+    inside-of = omega (arith, z .behind, z .within)
 
-    before-zero : upToZero (drop at d) ≡ accepted (take (r - at) (drop at d))
-    before-zero = z .says ∙ rw (lt-ltb r (length d) (omega (arith, z .within, h)))
+    before-zero : upToZero (from d at) ≡ accepted (take n (from d at))
+    before-zero = z .says ∙ rw (lt-ltb (r .0) (length d) (omega (arith, z .within, h)), is)
 
-    pub zero-long : 65535 < r - at → Decodes d at (decode o Field.ZeroEnded (drop at d)) (Decoded.Refused 20)
+    pub zero-long : 65535 < n → Decodes d at o Field.ZeroEnded (Decoded.Refused 20)
     unfolding decode
-    zero-long l = record { says = rw (before-zero, long-is (r - at) at d inside-of l); inside = tt }
+    zero-long l = record { says = rw (before-zero, long-is n (at .0) d inside-of l); inside = tt }
 
-    pub zero-read : r - at ≤ 65535 → Decodes d at (decode o Field.ZeroEnded (drop at d)) (Decoded.Read (Text at (r - at)) (r - at + 1))
+    pub zero-read : n ≤ 65535 → Decodes d at o Field.ZeroEnded (Decoded.Read (Text at n) (n + 1))
     unfolding decode
     zero-read l = record {
-      says = rw (before-zero, short-is (r - at) at d inside-of l, part-length (r - at) at d inside-of);
-      inside = ((inside-of, l), omega (arith, z .from, z .within, h));
+      says = rw (before-zero, short-is n (at .0) d inside-of l, part-length n (at .0) d inside-of);
+      inside = ((inside-of, l), omega (arith, z .behind, z .within, h));
     }
 
 -- ---- s: a length of n bytes, and the text of k bytes behind it
@@ -151,25 +157,26 @@ counting-more n k (accepted t) = go (short t)
     go (refused j) = refl
     go (accepted u) = refl
 
-module _ (o : Bool) (n at : ℕ) (d : List ℕ) where
-  pub counted-short : length d - at < n → Decodes d at (decode o (Field.Counted n) (drop at d)) (Decoded.Refused 17)
+module _ (d : List ℕ) (at : Offset) (o : Bool) (n : ℕ) where
+  pub counted-short : length d - at .0 < n → Decodes d at o (Field.Counted n) (Decoded.Refused 17)
   unfolding decode number
-  counted-short h = record { says = rw (first-short n at d h); inside = tt }
+  counted-short h = record { says = rw (first-short n (at .0) d h); inside = tt }
 
-  decode-counted : decode o (Field.Counted n) (drop at d) ≡ (unsignedAt o n (drop at d) >>= λ k. counting (n + k) (first k (drop n (drop at d))))
+  decode-counted : decode o (Field.Counted n) (from d at) ≡ (unsignedAt o n (from d at) >>= λ k. counting (n + k) (first k (drop n (from d at))))
   unfolding decode
-  decode-counted = sym (bind-bind (number o n (drop at d)) (λ r. unsigned (r .0) (r .1)) (λ k. counting (n + k) (first k (drop n (drop at d)))))
+  decode-counted = sym (bind-bind (number o n (from d at)) (λ r. unsigned (r .0) (r .1)) (λ k. counting (n + k) (first k (drop n (from d at)))))
 
-  pub counted-wide : refused 18 ≡ unsignedAt o n (drop at d) → Decodes d at (decode o (Field.Counted n) (drop at d)) (Decoded.Refused 18)
+  pub counted-wide : refused 18 ≡ unsignedAt o n (from d at) → Decodes d at o (Field.Counted n) (Decoded.Refused 18)
   counted-wide e = record { says = rw (decode-counted, ← e); inside = tt }
 
-  module _ (k : ℕ) (e : accepted k ≡ unsignedAt o n (drop at d)) where
-    behind : decode o (Field.Counted n) (drop at d) ≡ more n (decode o (Field.Chars k) (drop (at + n) d))
+  -- the text stands at the offset t
+  module _ {k : ℕ} (e : accepted k ≡ unsignedAt o n (from d at)) {t : Offset} (q : t .0 ≡ at .0 + n) where
+    behind : more n (decode o (Field.Chars k) (from d t)) ≡ decode o (Field.Counted n) (from d at)
     unfolding decode
-    behind = rw (decode-counted, ← e, drop-drop n at d) (counting-more n k (first k (drop (at + n) d)))
+    behind = rw (decode-counted, ← e, q, drop-drop n (at .0) d) (sym (counting-more n k (first k (drop (at .0 + n) d))))
 
-    pub counted-refused : (j : ℕ) → Decodes d (at + n) (decode o (Field.Chars k) (drop (at + n) d)) (Decoded.Refused j) → Decodes d at (decode o (Field.Counted n) (drop at d)) (Decoded.Refused j)
-    counted-refused j t = record { says = ap (more n) (t .says) ∙ sym behind; inside = tt }
+    pub counted-refused : {j : ℕ} → Decodes d t o (Field.Chars k) (Decoded.Refused j) → Decodes d at o (Field.Counted n) (Decoded.Refused j)
+    counted-refused p = record { says = ap (more n) (p .says) ∙ behind; inside = tt }
 
-    pub counted-read : (r : Reading) (m : ℕ) → Decodes d (at + n) (decode o (Field.Chars k) (drop (at + n) d)) (Decoded.Read r m) → Decodes d at (decode o (Field.Counted n) (drop at d)) (Decoded.Read r (n + m))
-    counted-read r m t = record { says = ap (more n) (t .says) ∙ sym behind; inside = (t .inside .0, omega (arith, t .inside .1)) }
+    pub counted-read : {r : Reading} {m : ℕ} → Decodes d t o (Field.Chars k) (Decoded.Read r m) → Decodes d at o (Field.Counted n) (Decoded.Read r (n + m))
+    counted-read p = record { says = ap (more n) (p .says) ∙ behind; inside = (p .inside .0, omega (arith, p .inside .1)) }

@@ -6,22 +6,24 @@ use coder::reading::get_unsigned;
 use coder::reading::get_word;
 use coder::words::to_signed;
 use definition::Kind;
+use definition::Offset;
+use position::further;
+use position::left;
 use single::from_single;
 ghost use mathlib.Core.Bool.{Bool};
 ghost use Prim.Native.Nat.{_+_, _≤_};
 ghost use lib.Dec.{T};
-ghost use lib.ListN.{length, drop};
-ghost use Rattle.definition.specs.Fields as fields;
+ghost use lib.ListN.{length};
 ghost use Rattle.definition.specs.declared.Field.the-variants as field;
 ghost use Rattle.definition.specs.declared.Kind.the-variants as kind;
 ghost use Rattle.definition.proofs.Numbers.{validSize};
-ghost use Rattle.fetch.specs.Readings.{Decodes, ZeroFrom};
+ghost use Rattle.fetch.specs.Readings.{Within, Decodes, ZeroFrom};
 
 // A value that is read: an integer, a float by its 64 bits, or a text by its offset in the data and its length.
 pub enum Reading {
     Integer(i64),
     Float(u64),
-    Text(usize, usize),
+    Text(Offset, u64),
 }
 
 // What a field's bytes give and how many they are, or the number of a refusal.
@@ -34,50 +36,50 @@ pub enum Decoded {
 const MAX_TEXT: u64 = 65535;
 
 // b h i l j
-fn signed(data: &[u8], at: usize, big: bool, size: u64) -> Decoded
-    requires { ⌜ at + size ≤ length (now «data») ⌝ }
-    ensures { λ r. ⌜ Decodes (now («data» .entry)) at (fields.decode big (field.Number kind.Signed size) (drop at (now («data» .entry)))) r ⌝ }
+fn signed(data: &[u8], at: Offset, big: bool, size: u64) -> Decoded
+    requires { ⌜ at .0 + size ≤ length (now «data») ⌝ }
+    ensures { λ r. ⌜ Decodes (now («data» .entry)) at big (field.Number kind.Signed size) r ⌝ }
 {
-    match get_signed(data, at, size as usize, big) {
+    match get_signed(data, at.0 as usize, size as usize, big) {
         Signed::Fits(z) => Decoded::Read(Reading::Integer(z), size),
         Signed::TooWide => Decoded::Refused(18),
     }
 }
 
 // B H I L J T
-fn unsigned(data: &[u8], at: usize, big: bool, size: u64) -> Decoded
-    requires { ⌜ at + size ≤ length (now «data») ⌝ }
-    ensures { λ r. ⌜ Decodes (now («data» .entry)) at (fields.decode big (field.Number kind.Unsigned size) (drop at (now («data» .entry)))) r ⌝ }
+fn unsigned(data: &[u8], at: Offset, big: bool, size: u64) -> Decoded
+    requires { ⌜ at .0 + size ≤ length (now «data») ⌝ }
+    ensures { λ r. ⌜ Decodes (now («data» .entry)) at big (field.Number kind.Unsigned size) r ⌝ }
 {
-    match get_unsigned(data, at, size as usize, big) {
+    match get_unsigned(data, at.0 as usize, size as usize, big) {
         Unsigned::Fits(word) => Decoded::Read(Reading::Integer(to_signed(word)), size),
         Unsigned::TooWide => Decoded::Refused(18),
     }
 }
 
 // f
-fn single(data: &[u8], at: usize, big: bool) -> Decoded
-    requires { ⌜ at + 4 ≤ length (now «data») ⌝ }
-    ensures { λ r. ⌜ Decodes (now («data» .entry)) at (fields.decode big (field.Number kind.Single 4) (drop at (now («data» .entry)))) r ⌝ }
+fn single(data: &[u8], at: Offset, big: bool) -> Decoded
+    requires { ⌜ at .0 + 4 ≤ length (now «data») ⌝ }
+    ensures { λ r. ⌜ Decodes (now («data» .entry)) at big (field.Number kind.Single 4) r ⌝ }
 {
-    let word = get_word(data, at, 4, big);
+    let word = get_word(data, at.0 as usize, 4, big);
     Decoded::Read(Reading::Float(from_single(word as u32)), 4)
 }
 
 // d n
-fn double(data: &[u8], at: usize, big: bool) -> Decoded
-    requires { ⌜ at + 8 ≤ length (now «data») ⌝ }
-    ensures { λ r. ⌜ Decodes (now («data» .entry)) at (fields.decode big (field.Number kind.Double 8) (drop at (now («data» .entry)))) r ⌝ }
+fn double(data: &[u8], at: Offset, big: bool) -> Decoded
+    requires { ⌜ at .0 + 8 ≤ length (now «data») ⌝ }
+    ensures { λ r. ⌜ Decodes (now («data» .entry)) at big (field.Number kind.Double 8) r ⌝ }
 {
-    Decoded::Read(Reading::Float(get_word(data, at, 8, big)), 8)
+    Decoded::Read(Reading::Float(get_word(data, at.0 as usize, 8, big)), 8)
 }
 
 // A number of a kind in so many bytes.
-pub fn number(data: &[u8], at: usize, big: bool, kind: Kind, size: u64) -> Decoded
-    requires { ⌜ at ≤ length (now «data») ⌝ ∗ ⌜ T (validSize kind size) ⌝ }
-    ensures { λ r. ⌜ Decodes (now («data» .entry)) at (fields.decode big (field.Number kind size) (drop at (now («data» .entry)))) r ⌝ }
+pub fn number(data: &[u8], at: Offset, big: bool, kind: Kind, size: u64) -> Decoded
+    requires { ⌜ Within (now «data») at ⌝ ∗ ⌜ T (validSize kind size) ⌝ }
+    ensures { λ r. ⌜ Decodes (now («data» .entry)) at big (field.Number kind size) r ⌝ }
 {
-    if ((data.len() - at) as u64) < size {
+    if left(data.len(), at) < size {
         return Decoded::Refused(17);
     }
     match kind {
@@ -94,65 +96,63 @@ pub fn number(data: &[u8], at: usize, big: bool, kind: Kind, size: u64) -> Decod
 }
 
 // c: a text of n bytes.
-pub fn text(data: &[u8], at: usize, n: u64) -> Decoded
-    requires { ⌜ at ≤ length (now «data») ⌝ }
-    ensures { λ r. ⌜ ((o : Bool) → Decodes (now («data» .entry)) at (fields.decode o (field.Chars n) (drop at (now («data» .entry)))) r) ⌝ }
+pub fn text(data: &[u8], at: Offset, n: u64) -> Decoded
+    requires { ⌜ Within (now «data») at ⌝ }
+    ensures { λ r. ⌜ ((o : Bool) → Decodes (now («data» .entry)) at o (field.Chars n) r) ⌝ }
 {
-    if ((data.len() - at) as u64) < n {
+    if left(data.len(), at) < n {
         return Decoded::Refused(17);
     }
     if MAX_TEXT < n {
         return Decoded::Refused(20);
     }
-    Decoded::Read(Reading::Text(at, n as usize), n)
+    Decoded::Read(Reading::Text(at, n), n)
 }
 
 // The offset of the first zero from `at` on; without one, the data's length.
-fn zero_from(data: &[u8], at: usize) -> usize
-    requires { ⌜ at ≤ length (now «data») ⌝ }
+fn zero_from(data: &[u8], at: Offset) -> Offset
+    requires { ⌜ Within (now «data») at ⌝ }
     ensures { λ r. ⌜ ZeroFrom (now («data» .entry)) at r ⌝ }
 {
-    let mut i = at;
+    let mut i = at.0 as usize;
     while i < data.len() {
         if data[i] == 0 {
-            return i;
+            return Offset(i as u64);
         }
         i += 1;
     }
-    i
+    Offset(i as u64)
 }
 
 // z
-pub fn zero_ended(data: &[u8], at: usize) -> Decoded
-    requires { ⌜ at ≤ length (now «data») ⌝ }
-    ensures { λ r. ⌜ ((o : Bool) → Decodes (now («data» .entry)) at (fields.decode o field.ZeroEnded (drop at (now («data» .entry)))) r) ⌝ }
+pub fn zero_ended(data: &[u8], at: Offset) -> Decoded
+    requires { ⌜ Within (now «data») at ⌝ }
+    ensures { λ r. ⌜ ((o : Bool) → Decodes (now («data» .entry)) at o field.ZeroEnded r) ⌝ }
 {
     let end = zero_from(data, at);
-    if end == data.len() {
+    if left(data.len(), end) == 0 {
         return Decoded::Refused(19);
     }
-    let n = end - at;
-    let taken = n + 1;
-    if MAX_TEXT < n as u64 {
+    let n = end.0 - at.0;
+    if MAX_TEXT < n {
         return Decoded::Refused(20);
     }
-    Decoded::Read(Reading::Text(at, n), taken as u64)
+    Decoded::Read(Reading::Text(at, n), n + 1)
 }
 
 // s: a length of so many bytes, then its text.
-pub fn counted(data: &[u8], at: usize, big: bool, size: u64) -> Decoded
-    requires { ⌜ at ≤ length (now «data») ⌝ }
-    ensures { λ r. ⌜ Decodes (now («data» .entry)) at (fields.decode big (field.Counted size) (drop at (now («data» .entry)))) r ⌝ }
+pub fn counted(data: &[u8], at: Offset, big: bool, size: u64) -> Decoded
+    requires { ⌜ Within (now «data») at ⌝ }
+    ensures { λ r. ⌜ Decodes (now («data» .entry)) at big (field.Counted size) r ⌝ }
 {
-    if ((data.len() - at) as u64) < size {
+    if left(data.len(), at) < size {
         return Decoded::Refused(17);
     }
-    let n = size as usize;
-    let Unsigned::Fits(k) = get_unsigned(data, at, n, big) else {
+    let Unsigned::Fits(n) = get_unsigned(data, at.0 as usize, size as usize, big) else {
         return Decoded::Refused(18);
     };
-    match text(data, at + n, k) {
-        Decoded::Refused(number) => Decoded::Refused(number),
+    match text(data, further(at, size), n) {
+        Decoded::Refused(k) => Decoded::Refused(k),
         Decoded::Read(r, m) => Decoded::Read(r, size + m),
     }
 }

@@ -1,9 +1,9 @@
-// "An offset counts from 0, a position from 1": the one place where the two are converted.
+// "An offset counts from 0, a position from 1": the one place where the two are converted, and the sums over offsets.
 use coder::words::extent;
 use definition::Offset;
 use definition::Position;
 ghost use mathlib.Core.Path.{_≡_};
-ghost use Prim.Native.Nat.{_-_, _<_, _^_};
+ghost use Prim.Native.Nat.{_+_, _-_, _≤_, _<_, _^_};
 ghost use Rattle.definition.specs.Reading.{offsetOf, positionOf};
 ghost use Rattle.position.specs.Starts.{startedOf};
 
@@ -40,4 +40,20 @@ pub fn position_of(offset: Offset) -> Position
     ensures { λ r. ⌜ r ≡ positionOf offset ⌝ }
 {
     Position(offset.0 + 1)
+}
+
+// The offset n bytes on.
+pub fn further(o: Offset, n: u64) -> Offset
+    requires { ⌜ o .0 + n < 2 ^ 64 ⌝ }
+    ensures { λ r. ⌜ r .0 ≡ o .0 + n ⌝ }
+{
+    Offset(o.0 + n)
+}
+
+// How many bytes are left from an offset on, in data of so many.
+pub fn left(length: usize, o: Offset) -> u64
+    requires { ⌜ o .0 ≤ length ⌝ }
+    ensures { λ r. ⌜ r ≡ length - o .0 ⌝ }
+{
+    length as u64 - o.0
 }

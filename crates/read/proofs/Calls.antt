@@ -11,9 +11,9 @@ use borrow.Author.Tests.{le-leb, lt-leb, leb-true}
 use Rattle.definition.specs.Answers.{Checked, refused, accepted, _>>=_}
 use Rattle.definition.specs.Values.{Value}
 use Rattle.definition.specs.Lists.{listOf}
-use Rattle.definition.specs.States.{state}
+use Rattle.definition.specs.States.{start}
 use Rattle.definition.specs.Writing.{Place}
-use Rattle.definition.specs.Reading.{offset, positionOf, offsetOf, read}
+use Rattle.definition.specs.Reading.{offset, positionOf, offsetOf, offsetIn, atOffset, readFrom, read}
 use Rattle.definition.specs.Calls.{Call, call, into, unpack, unpackedOf, stringUnpack}
 use Rattle.definition.specs.declared.State.{State}
 use Rattle.definition.specs.declared.Offset.{Offset}
@@ -24,8 +24,8 @@ use Rattle.definition.proofs.Calls.{into-fits}
 use Rattle.read.specs.Runs.{readAt, Reads, Fits, listInto, listAfter}
 
 -- an offset of data is inside it
-pub offset-inside : (p : ℤ) (len : ℕ) (o : Offset) → accepted o ≡ offsetOf p len → o .0 ≤ len
-offset-inside (pos p) len o e =
+pub offset-inside : (p : ℤ) (len : ℕ) {o : Offset} → accepted o ≡ offsetOf p len → o .0 ≤ len
+offset-inside (pos p) len {o} e =
     let q = passed (leb 1 p && leb p (len + 1)) 16 (accepted (offset (p - 1))) (sym e) in
     let i : p - 1 ≡ o .0 = ap (λ (x : Offset). x .0) (same (q .1)) in
     omega (arith, i, leb-true p (len + 1) (right (leb 1 p) (leb p (len + 1)) (q .0)))
@@ -33,7 +33,7 @@ offset-inside (pos p) len o e =
     right : (a b : Bool) → (a && b) ≡ true → b ≡ true
     right true b h = h
     right false b h = absurd (true-not-false (sym h))
-offset-inside (negsuc k) len o e =
+offset-inside (negsuc k) len {o} e =
     let q = passed (ltb k len) 16 (accepted (offset (len - suc k))) (sym e) in
     let i : len - suc k ≡ o .0 = ap (λ (x : Offset). x .0) (same (q .1)) in
     omega (arith, i)
@@ -49,10 +49,6 @@ callWith n v l = call (accepted (record { length = n; next = v })) l
 same-call : {m n : ℕ} {u v : Position} {k l : List ℕ} → m ≡ n → u ≡ v → k ≡ l → callWith m u k ≡ callWith n v l
 same-call e f g = rw (e, f, g)
 
--- the state at an offset, in the start state's order and limit
-abbrev at : Offset → State
-at o = state false 1 (o .0)
-
 -- of a format f, data d, a start p and a list buffer b
 module _ (f d : List ℕ) (p : ℤ) (b : List ℕ) (small : length d < 2 ^ 63) where
   no-21 : leb (length d) (2 ^ 63 - 1) ≡ true
@@ -62,41 +58,46 @@ module _ (f d : List ℕ) (p : ℤ) (b : List ℕ) (small : length d < 2 ^ 63) w
   unfolding stringUnpack unpack read
   call-outside e = rw (no-21, ← e)
 
-  module _ (o : Offset) (e : accepted o ≡ offsetOf p (length d)) where
+  -- s is the state at the start's offset
+  module _ {o : Offset} (e : accepted o ≡ offsetOf p (length d)) {s : State} (at : s ≡ atOffset start o) where
     -- what the call makes of a reading
     abbrev called : Checked (Place ℕ × List Value) → Call Unpacked
-    called w = into b (w >>= λ r. accepted (unpackedOf (r .1, positionOf (offset (r .0 .state .length))), listOf (r .1)))
+    called w = into b (w >>= λ r. accepted (unpackedOf (r .1, positionOf (offsetIn (r .0 .state))), listOf (r .1)))
 
-    called-is : called (readAt f d (at o)) ≡ stringUnpack f d p b
+    called-is : called (readAt f d s) ≡ stringUnpack f d p b
     unfolding stringUnpack unpack read
-    called-is = rw (no-21, ← e) (go (readAt f d (at o)))
+    called-is = rw (at, no-21, ← e) (go (readFrom f d o))
       where
-        go : (w : Checked (Place ℕ × List Value)) → called w ≡ into b ((w >>= λ r. accepted (r .1, positionOf (offset (r .0 .state .length)))) >>= λ r. accepted (unpackedOf r, listOf (r .0)))
+        go : (w : Checked (Place ℕ × List Value))
+            → called w ≡ into b ((w >>= λ r. accepted (r .1, positionOf (offsetIn (r .0 .state)))) >>= λ r. accepted (unpackedOf r, listOf (r .0)))
         go (refused k) = refl
         go (accepted r) = refl
 
     -- l is the buffer after the first pass, which is as it was
-    module _ (l : List ℕ) (kept : l ≡ b) where
-      pub call-refused : (k : ℕ) → readAt f d (at o) ≡ refused k → call (refused k) l ≡ stringUnpack f d p b
-      call-refused k q = ap (call (refused k)) kept ∙ ap called (sym q) ∙ called-is
+    module _ {l : List ℕ} (kept : l ≡ b) where
+      pub call-refused : {k : ℕ} → readAt f d s ≡ refused k → call (refused k) l ≡ stringUnpack f d p b
+      call-refused {k} q = ap (call (refused k)) kept ∙ ap called (sym q) ∙ called-is
 
       -- the first pass answers the length n and the offset u
-      module _ (n : ℕ) (u : Offset) (r : Reads d (readAt f d (at o)) n u) (short : length b < 2 ^ 63) where
+      module _ {n : ℕ} {u : Offset} (r : Reads d (readAt f d s) n u) (short : length b < 2 ^ 63) where
         pub call-long : length l < n → call (refused 22) l ≡ stringUnpack f d p b
-        call-long h = ap (call (refused 22)) kept ∙ sym (into-long b _ (listOf (r .values)) (omega (arith, r .counts, ap length kept))) ∙ ap called (sym (r .accepts)) ∙ called-is
+        call-long h =
+            ap (call (refused 22)) kept
+            ∙ sym (into-long b _ (listOf (r .values)) (omega (arith, r .counts, ap length kept)))
+            ∙ ap called (sym (r .accepts))
+            ∙ called-is
 
         module _ (h : n ≤ length l) where
           exact : n ≡ length (listOf (r .values))
           exact = omega (arith, r .counts, ap length kept)
 
-          pub call-fits : Fits f d (at o) l
+          pub call-fits : Fits f d s l
           call-fits = record { next = r .next; values = r .values; accepts = r .accepts; room = omega (arith, exact) }
 
-          pub call-read : (k : List ℕ) (v : Position) → k ≡ listAfter f d (at o) l → v ≡ positionOf u → callWith n v k ≡ stringUnpack f d p b
-          call-read k v q i =
-              let j : v ≡ positionOf (offset (r .next .state .length)) = i ∙ ap (λ (x : ℕ). positionOf (offset x)) (r .ends) in
-              let x : k ≡ listInto b (accepted (r .next, r .values)) = q ∙ ap (λ (y : List ℕ). listAfter f d (at o) y) kept ∙ ap (listInto b) (r .accepts) in
-              same-call exact j x
+          pub call-read : {k : List ℕ} {v : Position} → k ≡ listAfter f d s l → v ≡ positionOf u → callWith n v k ≡ stringUnpack f d p b
+          call-read {k} q i =
+              let x : k ≡ listInto b (accepted (r .next, r .values)) = q ∙ ap (listAfter f d s) kept ∙ ap (listInto b) (r .accepts) in
+              same-call exact (i ∙ ap positionOf (r .ends)) x
               ∙ sym (into-fits b _ (listOf (r .values)) (omega (arith, exact, ap length kept)))
               ∙ ap called (sym (r .accepts))
               ∙ called-is

@@ -10,11 +10,12 @@ use Rattle.definition.specs.Items.{Item, items}
 use Rattle.definition.specs.Ops.{opOf}
 use Rattle.definition.specs.Values.{Value}
 use Rattle.definition.specs.Writing.{Place}
-use Rattle.definition.specs.Reading.{readOp, readItem, reading}
+use Rattle.definition.specs.Reading.{atOffset, readOp, readItem, reading}
 use Rattle.definition.specs.declared.State.{State}
+use Rattle.definition.specs.declared.Offset.{Offset}
 use Rattle.definition.specs.declared.Op.{Op}
 use Rattle.definition.proofs.Ops.{validOp, op-valid}
-use Rattle.definition.proofs.Steps.{placed}
+use Rattle.definition.proofs.Parts.{after-nothing, after-after}
 use Rattle.format.specs.Steps.{nextAt}
 use Rattle.format.proofs.Walking.{at-end, at-refusal, at-item}
 use Rattle.fetch.specs.Readings.{valueOf, Stands, placeIn, fetchedIs, FetchedStands, Fetches}
@@ -27,12 +28,10 @@ abbrev pub onto : List Value → Checked (Place ℕ × List Value) → Checked (
 onto vs c = after readItem [] _++_ vs c
 
 onto-onto : (x y : List Value) (c : Checked (Place ℕ × List Value)) → onto x (onto y c) ≡ onto (x ++ y) c
-onto-onto x y (refused k) = refl
-onto-onto x y (accepted r) = ap (λ (vs : List Value). accepted (r .0, vs)) (sym (append-assoc x y (r .1)))
+onto-onto = after-after readItem [] _++_ (λ vs. refl) append-assoc
 
 onto-none : (c : Checked (Place ℕ × List Value)) → c ≡ onto [] c
-onto-none (refused k) = refl
-onto-none (accepted r) = refl
+onto-none = after-nothing readItem [] _++_ (λ vs. refl) append-assoc
 
 -- ---- items
 
@@ -40,7 +39,8 @@ reading-refused : (p : Place ℕ) (i : Item) (is : List Item) (k : ℕ) → opOf
 unfolding readItem
 reading-refused p i is k e = rw e
 
-reading-item : (p : Place ℕ) (i : Item) (is : List Item) (o : Op) → opOf i ≡ accepted o → (c : Checked (Place ℕ × List Value)) → readOp p o ≡ c → reading p (i ∷ is) ≡ (c >>= λ r. onto (r .1) (reading (r .0) is))
+reading-item : (p : Place ℕ) (i : Item) (is : List Item) (o : Op) → opOf i ≡ accepted o → (c : Checked (Place ℕ × List Value)) → readOp p o ≡ c
+    → reading p (i ∷ is) ≡ (c >>= λ r. onto (r .1) (reading (r .0) is))
 unfolding readItem
 reading-item p i is o e c f = rw (e, f)
 
@@ -61,32 +61,39 @@ pub from-start : (f d : List ℕ) (s : State) (at : ℕ) → at ≡ 0 → Stands
 from-start f d s at e h = record { whole = rw e (onto-none (reading (placeIn d s) (items f))); stands = h }
 
 module _ {f d : List ℕ} {w : Checked (Place ℕ × List Value)} {at : ℕ} {s : State} {vs : List Value} (h : SoFar f d w at s vs) where
+  -- what is read from here on, of the items `is`
+  abbrev further-on : List Item → Checked (Place ℕ × List Value)
+  further-on is = onto vs (reading (placeIn d s) is)
+
   pub run-end : nextAt at (drop at f) ≡ accepted none → w ≡ accepted (placeIn d s, vs)
-  run-end q = h .whole ∙ ap (λ (is : List Item). onto vs (reading (placeIn d s) is)) (at-end f at q) ∙ ap (λ (x : List Value). accepted (placeIn d s, x)) (append-nil vs)
+  run-end q = h .whole ∙ ap further-on (at-end f at q) ∙ ap (λ (x : List Value). accepted (placeIn d s, x)) (append-nil vs)
 
   pub run-refusal : {k : ℕ} → nextAt at (drop at f) ≡ refused k → w ≡ refused k
   run-refusal {k} q =
       let x = at-refusal f at k q in
-      h .whole ∙ ap (λ (is : List Item). onto vs (reading (placeIn d s) is)) (x .are) ∙ ap (onto vs) (reading-refused (placeIn d s) (x .first) (x .rest) k (x .refuses))
+      h .whole ∙ ap further-on (x .are) ∙ ap (onto vs) (reading-refused (placeIn d s) (x .first) (x .rest) k (x .refuses))
 
   -- the item at the place does o, the next one stands at p, and r is what the item reads
   module _ {o : Op} {p : ℕ} (q : nextAt at (drop at f) ≡ accepted (some (o, p))) {r : Fetched} (g : Fetches d s o r) where
+    -- what is read behind it, from a state
+    abbrev behind : State → Checked (Place ℕ × List Value)
+    behind t = reading (placeIn d t) (items (drop p f))
+
     by-item : w ≡ onto vs (fetchedIs d s r >>= λ x. onto (x .1) (reading (x .0) (items (drop p f))))
     by-item =
         let x = at-item f at o p q in
-        h .whole ∙ ap (λ (is : List Item). onto vs (reading (placeIn d s) is)) (x .are) ∙ ap (onto vs) (reading-item (placeIn d s) (x .first) (items (drop p f)) o (x .does) (fetchedIs d s r) (sym (g .says)))
+        h .whole
+        ∙ ap further-on (x .are)
+        ∙ ap (onto vs) (reading-item (placeIn d s) (x .first) (items (drop p f)) o (x .does) (fetchedIs d s r) (sym (g .says)))
 
     pub item-refused : {k : ℕ} → r ≡ Fetched.Refused k → w ≡ refused k
     item-refused e = by-item ∙ rw e
 
     pub item-set : {t : State} → r ≡ Fetched.Set t → SoFar f d w p t vs
-    item-set {t} e = record {
-      whole = by-item ∙ rw e (ap (onto vs) (sym (onto-none (reading (placeIn d t) (items (drop p f))))));
-      stands = subst (FetchedStands d) e (g .stands);
-    }
+    item-set {t} e = record { whole = by-item ∙ rw e (ap (onto vs) (sym (onto-none (behind t)))); stands = subst (FetchedStands d) e (g .stands) }
 
-    pub item-read : {v : Reading} {n : ℕ} → r ≡ Fetched.Read v n → SoFar f d w p (placed n s) (vs ++ (valueOf d v ∷ []))
-    item-read {v} {n} e = record {
-      whole = by-item ∙ rw e (onto-onto vs (valueOf d v ∷ []) (reading (placeIn d (placed n s)) (items (drop p f))));
-      stands = record { inside = subst (FetchedStands d) e (g .stands) .0; limit = h .stands .limit };
+    pub item-read : {v : Reading} {t : Offset} → r ≡ Fetched.Read v t → SoFar f d w p (atOffset s t) (vs ++ (valueOf d v ∷ []))
+    item-read {v} {t} e = record {
+      whole = by-item ∙ rw e (onto-onto vs (valueOf d v ∷ []) (behind (atOffset s t)));
+      stands = subst (FetchedStands d) e (g .stands) .0;
     }

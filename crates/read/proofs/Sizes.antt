@@ -1,15 +1,16 @@
 -- The length of a field, and the list of values in parts.
 use Prim.Native.Nat.{ℕ, _+_, _≤_}
 use native.Mathlib.Omega.{arith}
-use mathlib.Core.Path.{_≡_, refl, sym, ap, _∙_, subst}
+use mathlib.Core.Path.{_≡_, refl, subst}
 use mathlib.Core.List.{List, [], _∷_, _++_, append-assoc}
-use lib.ListN.{length, take, drop, length-drop}
+use lib.ListN.{length, take, length-drop}
 use lib.Seq.{length-take-le, paste}
 use Rattle.definition.specs.Bytes.{bits}
 use Rattle.definition.specs.Values.{Value, integer, float, text}
-use Rattle.definition.specs.Lists.{big, tag, content, listOf}
+use Rattle.definition.specs.Lists.{big, content, listOf}
 use Rattle.definition.proofs.Lists.{length-big, length-list}
-use Rattle.fetch.specs.Readings.{valueOf, Inside}
+use Rattle.definition.specs.declared.Offset.{Offset}
+use Rattle.fetch.specs.Readings.{from, valueOf, Inside}
 use Rattle.fetch.specs.declared.decode.Reading.{Reading}
 use Rattle.fetch.specs.declared.decode.Reading.the-variants.{Integer, Float, Text}
 use Rattle.read.specs.Runs.{sizeOf, Short}
@@ -19,8 +20,7 @@ unfolding listOf
 list-parts [] y = refl
 list-parts (v ∷ x) y =
     let n : ℕ = length (content v) in
-    ap (λ (l : List ℕ). tag v ∷ (big 2 n ++ (content v ++ l))) (list-parts x y)
-    ∙ ap (λ (l : List ℕ). tag v ∷ l) (ap (λ (l : List ℕ). big 2 n ++ l) (sym (append-assoc (content v) (listOf x) (listOf y))) ∙ sym (append-assoc (big 2 n) (content v ++ listOf x) (listOf y)))
+    rw (list-parts x y, ← append-assoc (content v) (listOf x) (listOf y), ← append-assoc (big 2 n) (content v ++ listOf x) (listOf y))
 
 pub no-values : length (listOf []) ≡ 0
 unfolding listOf
@@ -33,7 +33,9 @@ one-value v n e = omega (arith, length-list v [], no-values, e)
 pub size-is : (d : List ℕ) (r : Reading) → Inside d r → length (listOf (valueOf d r ∷ [])) ≡ sizeOf r
 size-is d (Integer z) h = one-value (integer z) 8 (length-big 8 (bits z))
 size-is d (Float b) h = one-value (float b) 8 (length-big 8 b)
-size-is d (Text start n) h = one-value (text (take n (drop start d))) n (length-take-le n (drop start d) (omega (arith, length-drop start d, h .0)))
+size-is d (Text start n) h =
+    let s : List ℕ = from d start in
+    one-value (text (take n s)) n (length-take-le n s (omega (arith, length-drop (start .0) d, h .0)))
 
 pub short : (d : List ℕ) (r : Reading) → Inside d r → Short r
 short d (Integer z) h = tt
@@ -41,10 +43,10 @@ short d (Float b) h = tt
 short d (Text start n) h = h .1
 
 -- ---- by the variant
-pub text-short : {r : Reading} {start n : ℕ} → r ≡ Text start n → Short r → n ≤ 65535
+pub text-short : {r : Reading} {start : Offset} {n : ℕ} → r ≡ Text start n → Short r → n ≤ 65535
 text-short e h = subst Short e h
 
-pub text-inside : (d : List ℕ) {r : Reading} {start n : ℕ} → r ≡ Text start n → Inside d r → start + n ≤ length d
+pub text-inside : (d : List ℕ) {r : Reading} {start : Offset} {n : ℕ} → r ≡ Text start n → Inside d r → start .0 + n ≤ length d
 text-inside d e h = subst (Inside d) e h .0
 
 pub room-for : {r q : Reading} (at : ℕ) (l : List ℕ) → r ≡ q → at + sizeOf r ≤ length l → at + sizeOf q ≤ length l

@@ -8,10 +8,10 @@ use Rattle.definition.specs.Items.{items}
 use Rattle.definition.specs.Values.{Value}
 use Rattle.definition.specs.Lists.{listOf}
 use Rattle.definition.specs.Writing.{Place}
-use Rattle.definition.specs.Reading.{reading}
+use Rattle.definition.specs.Reading.{offsetIn, reading}
 use Rattle.definition.specs.declared.State.{State}
 use Rattle.definition.specs.declared.Offset.{Offset}
-use Rattle.fetch.specs.Readings.{placeIn}
+use Rattle.fetch.specs.Readings.{Within, placeIn}
 use Rattle.fetch.specs.declared.decode.Reading.{Reading}
 use Rattle.fetch.specs.declared.decode.Reading.the-variants.{Integer, Float, Text}
 use Rattle.read.specs.declared.pass.Total.{Total}
@@ -47,8 +47,8 @@ pub record Reads (d : List ℕ) (w : Checked (Place ℕ × List Value)) (n : ℕ
   pub values : List Value
   pub accepts : w ≡ accepted (next, values)
   pub counts : SameTo63 n (length (listOf values))
-  pub ends : o .0 ≡ next .state .length
-  pub inside : o .0 ≤ length d
+  pub ends : o ≡ offsetIn (next .state)
+  pub inside : Within d o
 
 abbrev pub Totals : List ℕ → Checked (Place ℕ × List Value) → Total → Type 0
 Totals d w (Refused k) = w ≡ refused k

@@ -3,7 +3,8 @@ mod pass;
 
 use crate::pass::Total;
 use crate::pass::pass;
-use definition::State;
+use align::at_offset;
+use align::start as start_state;
 use definition::Unpacked;
 use format::options::table;
 use position::Started;
@@ -26,11 +27,7 @@ pub fn string_unpack(format: &[u8], data: &[u8], start: i64, list: &mut [u8]) ->
     let Started::At(offset) = offset_of(start, data.len()) else {
         return Unpacking::Refused(16);
     };
-    let s = State {
-        big: false,
-        limit: 1,
-        length: offset.0,
-    };
+    let s = at_offset(start_state(), offset);
     let options = table();
     match pass(&options, format, data, s, list, false) {
         Total::Refused(k) => Unpacking::Refused(k),

@@ -1,4 +1,7 @@
 // A pass over a format: every check, the length of the value list, and where it is asked for, the list.
+use align::at_offset;
+use align::offset_in;
+use align::same;
 use definition::Offset;
 use definition::State;
 use fetch::Fetched;
@@ -35,7 +38,7 @@ fn size_of(r: Reading) -> u64
     match r {
         Reading::Integer(_) => 11,
         Reading::Float(_) => 11,
-        Reading::Text(_, n) => 3 + n as u64,
+        Reading::Text(_, n) => 3 + n,
     }
 }
 
@@ -59,12 +62,11 @@ fn put_reading(list: &mut [u8], at: usize, data: &[u8], r: Reading)
     match r {
         Reading::Integer(z) => put_integer(list, at, z),
         Reading::Float(bits) => put_float(list, at, bits),
-        Reading::Text(start, n) => put_text(list, at, data, start, n),
+        Reading::Text(start, n) => put_text(list, at, data, start.0 as usize, n as usize),
     }
 }
 
-// Reads a format from a state, whose length is the offset in the data. With `put`, reading is accepted, and the list has room
-// for the values.
+// Reads a format from a state. With `put`, reading is accepted, and the list has room for the values.
 pub fn pass(
     table: &[u8; 256],
     format: &[u8],
@@ -82,16 +84,12 @@ pub fn pass(
     let mut total: u64 = 0;
     loop {
         match c.next(table, format) {
-            Next::End => return Total::Of(total, Offset(s.length)),
+            Next::End => return Total::Of(total, offset_in(s)),
             Next::Refused(k) => return Total::Refused(k),
             Next::Item(i, d) => match read_op(data, s, i.op()) {
                 Fetched::Refused(k) => return Total::Refused(k),
                 Fetched::Set(t) => {
-                    s = State {
-                        big: t.big,
-                        limit: t.limit,
-                        length: t.length,
-                    };
+                    s = same(t);
                     c = d;
                 }
                 Fetched::Read(r, next) => {
@@ -99,7 +97,7 @@ pub fn pass(
                         put_reading(list, total as usize, data, r);
                     }
                     total = sum(total, size_of(r));
-                    s.length = next;
+                    s = at_offset(s, next);
                     c = d;
                 }
             },

@@ -1,7 +1,9 @@
 -- `after` meets its contract, by what was decoded.
-use native.Mathlib.Omega.{arith}
-use mathlib.Core.Path.{sym, ap, subst}
+use Prim.Native.Nat.{ℕ}
+use mathlib.Core.Path.{sym, ap, _∙_, subst}
+use Rattle.definition.specs.Reading.{offset}
 use Rattle.fetch.specs.Readings.{Countable, afterOf}
+use Rattle.fetch.specs.declared.Fetched.the-variants as Fetched
 use borrow.Author.Needs.{needs}
 use Rattle.fetch.proofs.after.Statement.{statement}
 use Rattle.fetch.proofs.after.Tie as tie
@@ -12,14 +14,17 @@ enum-known-x c = search needs
 enum-known-x-2 : tie.Need-enum-known-x-2
 enum-known-x-2 c = search needs
 
-add-t7 : tie.Need-add-t7
-add-t7 c = omega (arith, subst (Countable (c .before .before .before .args .at)) (c .before .x2 .given .1) (c .before .before .before .pre))
+further-requires : tie.Need-further-requires
+further-requires c κs = let s = c .before .before .before in subst (Countable (s .args .at)) (c .before .x2 .given .1) (s .pre)
 
 returns : tie.Need-returns
 returns c = ap (afterOf (c .before .before .before .args .at)) (sym (c .before .x .given .1))
 
 returns-2 : tie.Need-returns-2
-returns-2 c = ap (afterOf (c .before .before .before .args .at)) (sym (c .before .x2 .given .1))
+returns-2 c =
+    let x = c .before .before in
+    ap (λ (m : ℕ). Fetched.Read (x .x2 .given .0 .0) (offset m)) (c .further .ensures)
+    ∙ ap (afterOf (x .before .before .args .at)) (sym (x .x2 .given .1))
 
 pub after-spec : {M : Type 1} → statement M
-after-spec = tie.close (tie.spec enum-known-x enum-known-x-2 add-t7 returns returns-2)
+after-spec = tie.close (tie.spec enum-known-x enum-known-x-2 further-requires returns returns-2)

@@ -1,8 +1,18 @@
 -- `read_number` meets its contract: the offset after the padding, and there the value.
+use Rattle.fetch.specs.Readings.{Skips}
+use Rattle.fetch.specs.declared.Skipped.the-variants.{To}
 use Rattle.fetch.proofs.Places.{field-pad-refused, field-after, countable, pad-told}
 use borrow.Author.Needs.{needs}
 use Rattle.fetch.proofs.read_number.Statement.{statement}
 use Rattle.fetch.proofs.read_number.Tie as tie
+
+-- the offset after the padding
+aligned : (c : tie.After-known-told2) → let s = c .before .before .before .before .before .before in
+    Skips (s .args .«data» .now) (s .args .s) (s .args .size) 0 (To (c .before .t .given .0 .0))
+aligned c = let p = c .before .before .before in pad-told (p .before .natural .ensures) (c .before .t .given .1) (p .read-pad .ensures)
+
+natural-requires : tie.Need-natural-requires
+natural-requires c κs = search needs
 
 read-pad-requires : tie.Need-read-pad-requires
 read-pad-requires c κs = search needs
@@ -14,21 +24,22 @@ enum-known-t : tie.Need-enum-known-t
 enum-known-t c = search needs
 
 number-requires : tie.Need-number-requires
-number-requires c κs = (pad-told (c .before .t .given .1) (c .before .before .before .read-pad .ensures) .inside, c .before .before .before .before .before .pre .1)
+number-requires c κs = (aligned c .inside, c .before .before .before .before .before .before .pre .1)
 
 after-requires : tie.Need-after-requires
-after-requires c κs = countable _ _ _ _ (c .before .before .before .before .before .before .good .0 .0) (c .number .ensures)
+after-requires c κs = countable (c .before .before .before .before .before .before .before .good .0 .0) (c .number .ensures)
 
 returns : tie.Need-returns
-returns c = let s = c .before .before .before .before .before in field-pad-refused (s .args .«data» .now) (s .args .s) _ (c .before .k .given .0 .0) (pad-told (c .before .k .given .1) (c .before .before .before .read-pad .ensures))
+returns c = let p = c .before .before .before in field-pad-refused (pad-told (p .before .natural .ensures) (c .before .k .given .1) (p .read-pad .ensures))
 
 returns-2 : tie.Need-returns-2
-returns-2 c = let s = c .before .before .before .before .before .before .before in field-after (s .args .«data» .now) (s .args .s) _ (c .before .before .before .t .given .0 .0) (pad-told (c .before .before .before .t .given .1) (c .before .before .before .before .before .read-pad .ensures)) (c .before .number .result) (c .before .number .ensures) (c .after .result) (c .after .ensures)
+returns-2 c = field-after (aligned (c .before .before)) (c .before .number .ensures) (c .after .ensures)
 
 pub read-number-spec : {M : Type 1} → statement M
 read-number-spec =
     tie.close
     (tie.spec
+    natural-requires
     read-pad-requires
     enum-known-k
     enum-known-t

@@ -1,4 +1,5 @@
 -- `read_op` meets its contract, by what the item does.
+use mathlib.Core.Path.{refl}
 use Rattle.fetch.proofs.Places.{blank-op, set-op, pad-op-refused, pad-op, of-op, valid-as, pad-told}
 use borrow.Author.Needs.{needs}
 use Rattle.fetch.proofs.read_op.Statement.{statement}
@@ -31,20 +32,27 @@ enum-known-number c = search needs
 enum-known-t : tie.Need-enum-known-t
 enum-known-t c = search needs
 
+at-offset-requires : tie.Need-at-offset-requires
+at-offset-requires c κs = search needs
+
 returns : tie.Need-returns
-returns c = of-op _ _ _ _ _ (c .before .before .op .given .1) (c .read-field .ensures)
+returns c = of-op (c .before .before .op .given .1) (c .read-field .ensures)
 
 returns-2 : tie.Need-returns-2
-returns-2 c = of-op _ _ _ _ _ (c .enum-told .given .1) (blank-op _ _ (c .before .before .before .pre .0))
+returns-2 c = of-op (c .enum-told .given .1) (blank-op _ _ (c .before .before .before .pre .0))
 
 returns-3 : tie.Need-returns-3
-returns-3 c = let s = c .before .before .before .before .before in of-op _ _ _ _ _ (c .before .before .op2 .given .1) (set-op (s .args .«data» .now) (s .args .s) (s .pre .0) (c .before .before .op2 .given .0 .0) _ (valid-as (c .before .before .op2 .given .1) (s .pre .1)) (c .set .ensures))
+returns-3 c = let x = c .before .before in of-op (x .op2 .given .1) (set-op _ _ (x .before .before .before .pre .0) (x .op2 .given .0 .0) (c .set .ensures))
 
 returns-4 : tie.Need-returns-4
-returns-4 c = let s = c .before .before .before .before .before .before .before .before in of-op _ _ _ _ _ (c .before .before .before .before .before .op3 .given .1) (pad-op-refused (s .args .«data» .now) (s .args .s) (s .pre .0) _ _ _ (pad-told (c .before .number .given .1) (c .before .before .before .read-pad .ensures)))
+returns-4 c =
+    let p = c .before .before .before in
+    of-op (p .before .before .op3 .given .1) (pad-op-refused (pad-told refl (c .before .number .given .1) (p .read-pad .ensures)))
 
 returns-5 : tie.Need-returns-5
-returns-5 c = let s = c .before .before .before .before .before .before .before .before in of-op _ _ _ _ _ (c .before .before .before .before .before .op3 .given .1) (pad-op (s .args .«data» .now) (s .args .s) (s .pre .0) _ _ _ (pad-told (c .before .t .given .1) (c .before .before .before .read-pad .ensures)))
+returns-5 c =
+    let p = c .before .before .before .before in
+    of-op (p .before .before .op3 .given .1) (pad-op (pad-told refl (c .before .before .t .given .1) (p .read-pad .ensures)) (c .at-offset .ensures))
 
 pub read-op-spec : {M : Type 1} → statement M
 read-op-spec =
@@ -59,6 +67,7 @@ read-op-spec =
     read-pad-requires
     enum-known-number
     enum-known-t
+    at-offset-requires
     returns
     returns-2
     returns-3

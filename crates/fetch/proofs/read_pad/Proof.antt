@@ -1,11 +1,21 @@
 -- `read_pad` meets its contract: 6 of the padding, 17 where the data end, else the offset after it.
 use native.Mathlib.Omega.{arith}
-use mathlib.Core.Path.{sym, ap, _∙_}
+use mathlib.Core.Path.{_≡_, sym, ap, _∙_}
+use Rattle.definition.specs.Answers.{accepted}
+use Rattle.definition.specs.States.{padding}
+use Rattle.definition.specs.declared.Offset.{Offset}
 use Rattle.align.specs.Amounts.{amountOf}
 use Rattle.fetch.proofs.Places.{pad-refused, pad-short, pad-read}
 use borrow.Author.Needs.{needs}
 use Rattle.fetch.proofs.read_pad.Statement.{statement}
 use Rattle.fetch.proofs.read_pad.Tie as tie
+
+-- the padding, and the offset of the state
+padded : (c : tie.After-known-told2) → accepted (c .before .p .given .0 .0) ≡ padding (c .before .before .before .before .before .args .s) (c .before .before .before .before .before .args .n)
+padded c = sym (ap amountOf (c .before .p .given .1)) ∙ c .before .before .before .padding .ensures
+
+here : (c : tie.After-offset-in) → c .offset-in .result .0 ≡ c .before .before .before .before .before .before .args .s .length
+here c = ap (λ (o : Offset). o .0) (c .offset-in .ensures)
 
 padding-requires : tie.Need-padding-requires
 padding-requires c κs = search needs
@@ -16,26 +26,31 @@ enum-known-number c = search needs
 enum-known-p : tie.Need-enum-known-p
 enum-known-p c = search needs
 
-sub-left : tie.Need-sub-left
-sub-left c = search needs
+offset-in-requires : tie.Need-offset-in-requires
+offset-in-requires c κs = search needs
+
+left-requires : tie.Need-left-requires
+left-requires c κs = let s = c .before .before .before .before .before .before in omega (arith, here c, s .pre)
 
 returns : tie.Need-returns
-returns c = let s = c .before .before .before .before .before .before .before in pad-short (s .args .«data» .now) (s .args .s) (s .args .n) (s .args .k) (c .before .before .before .p .given .0 .0) (sym (ap amountOf (c .before .before .before .p .given .1)) ∙ c .before .before .before .before .before .padding .ensures) (omega arith)
+returns c = let o = c .before .before in pad-short _ _ _ _ (padded (o .before)) (omega (arith, here o))
 
 returns-2 : tie.Need-returns-2
-returns-2 c = let s = c .before .before .before .before .before .before .before .before in pad-short (s .args .«data» .now) (s .args .s) (s .args .n) (s .args .k) (c .before .before .before .before .p .given .0 .0) (sym (ap amountOf (c .before .before .before .before .p .given .1)) ∙ c .before .before .before .before .before .before .padding .ensures) (omega arith)
+returns-2 c = let o = c .before .before .before in pad-short _ _ _ _ (padded (o .before)) (omega (arith, here o))
 
-add-t11 : tie.Need-add-t11
-add-t11 c = search needs
+add-further : tie.Need-add-further
+add-further c = search needs
 
-add-t13 : tie.Need-add-t13
-add-t13 c = search needs
+further-requires : tie.Need-further-requires
+further-requires c κs = search needs
 
 returns-3 : tie.Need-returns-3
-returns-3 c = let s = c .before .before .before .before .before in pad-refused (s .args .«data» .now) (s .args .s) (s .args .n) (s .args .k) (c .before .number .given .0 .0) (sym (ap amountOf (c .before .number .given .1)) ∙ c .before .before .before .padding .ensures)
+returns-3 c = pad-refused _ _ _ _ (sym (ap amountOf (c .before .number .given .1)) ∙ c .before .before .before .padding .ensures)
 
 returns-4 : tie.Need-returns-4
-returns-4 c = let s = c .before .before .before .before .before .before .before .before .before in pad-read (s .args .«data» .now) (s .args .s) (s .args .n) (s .args .k) (c .before .before .before .before .before .p .given .0 .0) (sym (ap amountOf (c .before .before .before .before .before .p .given .1)) ∙ c .before .before .before .before .before .before .before .padding .ensures) (omega arith)
+returns-4 c =
+    let o = c .before .before .before .before in
+    pad-read _ _ _ _ (padded (o .before)) (omega (arith, here o, c .further .ensures)) (omega (arith, here o, c .further .ensures))
 
 pub read-pad-spec : {M : Type 1} → statement M
 read-pad-spec =
@@ -44,10 +59,11 @@ read-pad-spec =
     padding-requires
     enum-known-number
     enum-known-p
-    sub-left
+    offset-in-requires
+    left-requires
     returns
     returns-2
-    add-t11
-    add-t13
+    add-further
+    further-requires
     returns-3
     returns-4)

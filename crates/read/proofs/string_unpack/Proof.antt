@@ -1,15 +1,17 @@
 -- `string_unpack` meets its contract: 16, then the first pass's refusal, then 22, else the list that the second pass puts.
-use Prim.Native.Nat.{_^_, _<_}
+use Prim.Native.Nat.{ℕ, _^_, _<_}
 use native.Mathlib.Omega.{arith}
 use mathlib.Core.Path.{_≡_, sym, ap, _∙_, subst}
-use mathlib.Core.Bool.{false}
-use lib.Dec.{lit≤}
+use mathlib.Core.List.{List}
 use lib.IntN.{ℤ}
 use lib.ListN.{length}
 use mir.Facts.{toZ-ofZ}
-use Rattle.definition.specs.Answers.{accepted}
-use Rattle.definition.specs.Reading.{offsetOf}
-use Rattle.definition.specs.States.{state}
+use Rattle.definition.specs.Answers.{Checked, accepted}
+use Rattle.definition.specs.Values.{Value}
+use Rattle.definition.specs.States.{start}
+use Rattle.definition.specs.Writing.{Place}
+use Rattle.definition.specs.Reading.{offsetOf, atOffset}
+use Rattle.definition.specs.declared.State.{State}
 use Rattle.definition.proofs.Answers.{true-not-false}
 use Rattle.position.specs.Starts.{startedOf}
 use Rattle.fetch.specs.Readings.{Stands}
@@ -25,20 +27,43 @@ data-short s = omega (arith, s .good .1 .0 .1)
 list-short : (s : tie.Start) → length (s .args .list .now) < 2 ^ 63
 list-short s = omega (arith, s .good .1 .1 .1 .0 .1)
 
+-- the entry, and the state that the start's offset gives, from later places
+abbrev entry : tie.After-at-offset → tie.Start
+entry a = a .before .before .before .before .before .before .before .before .before
+
+abbrev opened : tie.After-known-told3 → tie.After-at-offset
+opened x = x .before .before .before .before .before .before .before .before .before
+
 -- what the start gives
-started : (c : tie.After-offset-of) → startedOf (c .offset-of .result) ≡ offsetOf (c .before .before .before .before .args .start) (length (c .before .before .before .before .args .«data» .now))
-started c = c .offset-of .ensures ∙ ap (λ (p : ℤ). offsetOf p (length (c .before .before .before .before .args .«data» .now))) (toZ-ofZ (c .before .before .before .before .fits .start))
+started : (c : tie.After-offset-of) → let s = c .before .before .before .before in
+    startedOf (c .offset-of .result) ≡ offsetOf (s .args .start) (length (s .args .«data» .now))
+started c =
+    let s = c .before .before .before .before in
+    c .offset-of .ensures ∙ ap (λ (p : ℤ). offsetOf p (length (s .args .«data» .now))) (toZ-ofZ (s .fits .start))
 
--- the offset
-found : (c : tie.After-known-told) → accepted (c .before .offset .given .0 .0) ≡ offsetOf (c .before .before .before .before .before .before .before .args .start) (length (c .before .before .before .before .before .before .before .args .«data» .now))
-found c = sym (ap startedOf (c .before .offset .given .1)) ∙ started (c .before .before .before)
+-- the offset, and the state there
+found : (a : tie.After-at-offset) → let s = entry a in
+    accepted (a .before .before .before .offset .given .0 .0) ≡ offsetOf (s .args .start) (length (s .args .«data» .now))
+found a = let o = a .before .before .before in sym (ap startedOf (o .offset .given .1)) ∙ started (o .before .before)
 
-stands : (c : tie.After-known-told) → Stands (c .before .before .before .before .before .before .before .args .«data» .now) (state false 1 (c .before .offset .given .0 .0 .0))
-stands c = record { inside = offset-inside (c .before .before .before .before .before .before .before .args .start) (length (c .before .before .before .before .before .before .before .args .«data» .now)) (c .before .offset .given .0 .0) (found c); limit = lit≤ tt }
+placed : (a : tie.After-at-offset) → a .at-offset .result ≡ atOffset start (a .before .before .before .offset .given .0 .0)
+placed a = a .at-offset .ensures ∙ ap (λ (t : State). atOffset t (a .before .before .before .offset .given .0 .0)) (a .before .start .ensures)
+
+stands : (a : tie.After-at-offset) → Stands (entry a .args .«data» .now) (a .at-offset .result)
+stands a =
+    let s = entry a in
+    subst (Stands (s .args .«data» .now)) (sym (placed a)) (offset-inside (s .args .start) (length (s .args .«data» .now)) (found a))
+
+-- what reading gives there
+abbrev reading : (a : tie.After-at-offset) → Checked (Place ℕ × List Value)
+reading a = readAt (entry a .args .format .now) (entry a .args .«data» .now) (a .at-offset .result)
 
 -- what the first pass gives
-reads : (c : tie.After-known-told3) → Reads (c .before .before .before .before .before .before .before .before .before .before .before .before .before .before .before .before .args .«data» .now) (readAt (c .before .before .before .before .before .before .before .before .before .before .before .before .before .before .before .before .args .format .now) (c .before .before .before .before .before .before .before .before .before .before .before .before .before .before .before .before .args .«data» .now) (state false 1 (c .before .before .before .before .before .before .before .before .before .before .offset .given .0 .0 .0))) (c .before .length .given .0 .0) (c .before .length .given .0 .1 .0)
-reads c = subst (Totals (c .before .before .before .before .before .before .before .before .before .before .before .before .before .before .before .before .args .«data» .now) (readAt (c .before .before .before .before .before .before .before .before .before .before .before .before .before .before .before .before .args .format .now) (c .before .before .before .before .before .before .before .before .before .before .before .before .before .before .before .before .args .«data» .now) (state false 1 (c .before .before .before .before .before .before .before .before .before .before .offset .given .0 .0 .0)))) (c .before .length .given .1) (c .before .before .before .before .before .pass .ensures .0)
+reads : (x : tie.After-known-told3) → let a = opened x in
+    Reads (entry a .args .«data» .now) (reading a) (x .before .length .given .0 .0) (x .before .length .given .0 .1 .0)
+reads x =
+    let a = opened x in
+    subst (Totals (entry a .args .«data» .now) (reading a)) (x .before .length .given .1) (x .before .before .before .before .before .pass .ensures .0)
 
 offset-of-requires : tie.Need-offset-of-requires
 offset-of-requires c κs = search needs
@@ -50,7 +75,15 @@ enum-told : tie.Need-enum-told
 enum-told c = search needs
 
 returns : tie.Need-returns
-returns c = let s = c .before .before .before .before .before .before in call-outside (s .args .format .now) (s .args .«data» .now) (s .args .start) (s .args .list .now) (data-short s) (sym (ap startedOf (c .enum-told .given .1)) ∙ started (c .before .before))
+returns c =
+    let s = c .before .before .before .before .before .before in
+    call-outside _ _ (s .args .start) _ (data-short s) (sym (ap startedOf (c .enum-told .given .1)) ∙ started (c .before .before))
+
+start-requires : tie.Need-start-requires
+start-requires c κs = search needs
+
+at-offset-requires : tie.Need-at-offset-requires
+at-offset-requires c κs = search needs
 
 table-requires : tie.Need-table-requires
 table-requires c κs = search needs
@@ -68,25 +101,54 @@ same-length : tie.Need-same-length
 same-length c = search needs
 
 returns-2 : tie.Need-returns-2
-returns-2 c = let s = c .before .before .before .before .before .before .before .before .before .before .before .before .before .before .before .before .before in call-long (s .args .format .now) (s .args .«data» .now) (s .args .start) (s .args .list .now) (data-short s) (c .before .before .before .before .before .before .before .before .before .before .before .offset .given .0 .0) (found (c .before .before .before .before .before .before .before .before .before .before)) _ (c .before .before .before .before .before .before .pass .ensures .1) (c .before .before .length .given .0 .0) (c .before .before .length .given .0 .1 .0) (reads (c .before)) (list-short s) (c .if1 .taken)
+returns-2 c =
+    let x = c .before in
+    let a = opened x in
+    let s = entry a in
+    call-long _ _ (s .args .start) _ (data-short s) (found a) (placed a)
+    (x .before .before .before .before .before .pass .ensures .1)
+    (reads x) (list-short s) (c .if1 .taken)
 
 pass-requires-2 : tie.Need-pass-requires-2
-pass-requires-2 c κs = (c .before .before .before .before .before .before .before .before .before .before .before .table .ensures, (stands (c .before .before .before .before .before .before .before .before .before .before .before .before), λ e. let s = c .before .before .before .before .before .before .before .before .before .before .before .before .before .before .before .before .before .before .before in call-fits (s .args .format .now) (s .args .«data» .now) (s .args .start) (s .args .list .now) (data-short s) (c .before .before .before .before .before .before .before .before .before .before .before .before .before .offset .given .0 .0) (found (c .before .before .before .before .before .before .before .before .before .before .before .before)) _ (c .before .before .before .before .before .before .before .before .pass .ensures .1) (c .before .before .before .before .length .given .0 .0) (c .before .before .before .before .length .given .0 .1 .0) (reads (c .before .before .before)) (list-short s) (c .before .before .if1 .left)))
+pass-requires-2 c κs =
+    let x = c .before .before .before in
+    let a = opened x in
+    let s = entry a in
+    let fits = call-fits _ _ (s .args .start) (s .args .list .now) (data-short s) (found a) (placed a)
+    (x .before .before .before .before .before .pass .ensures .1)
+    (reads x) (list-short s) (c .before .before .if1 .left) in
+    (x .before .before .before .before .before .before .before .before .table .ensures, (stands a, λ e. fits))
 
 position-of-requires : tie.Need-position-of-requires
-position-of-requires c κs = omega (arith, reads (c .before .before .before .before .before .before) .inside, data-short (c .before .before .before .before .before .before .before .before .before .before .before .before .before .before .before .before .before .before .before .before .before .before))
+position-of-requires c κs =
+    let x = c .before .before .before .before .before .before in
+    omega (arith, reads x .inside, data-short (entry (opened x)))
 
 same-length-2 : tie.Need-same-length-2
 same-length-2 c = search needs
 
 returns-3 : tie.Need-returns-3
-returns-3 c = let s = c .before .before .before .before .before .before .before .before .before .before .before .before .before .before .before .before in call-refused (s .args .format .now) (s .args .«data» .now) (s .args .start) (s .args .list .now) (data-short s) (c .before .before .before .before .before .before .before .before .before .before .offset .given .0 .0) (found (c .before .before .before .before .before .before .before .before .before)) _ (c .before .before .before .before .before .pass .ensures .1) (c .before .k .given .0 .0) (subst (Totals (s .args .«data» .now) (readAt (s .args .format .now) (s .args .«data» .now) (state false 1 (c .before .before .before .before .before .before .before .before .before .before .offset .given .0 .0 .0)))) (c .before .k .given .1) (c .before .before .before .before .before .pass .ensures .0))
+returns-3 c =
+    let a = c .before .before .before .before .before .before .before .before .before in
+    let s = entry a in
+    let p = c .before .before .before .before .before in
+    call-refused _ _ (s .args .start) _ (data-short s) (found a) (placed a)
+    (p .pass .ensures .1)
+    (subst (Totals (s .args .«data» .now) (reading a)) (c .before .k .given .1) (p .pass .ensures .0))
 
 same-length-3 : tie.Need-same-length-3
 same-length-3 c = search needs
 
 returns-4 : tie.Need-returns-4
-returns-4 c = let s = c .before .before .before .before .before .before .before .before .before .before .before .before .before .before .before .before .before .before .before .before .before .before .before in call-read (s .args .format .now) (s .args .«data» .now) (s .args .start) (s .args .list .now) (data-short s) (c .before .before .before .before .before .before .before .before .before .before .before .before .before .before .before .before .before .offset .given .0 .0) (found (c .before .before .before .before .before .before .before .before .before .before .before .before .before .before .before .before)) _ (c .before .before .before .before .before .before .before .before .before .before .before .before .pass .ensures .1) (c .before .before .before .before .before .before .before .before .length .given .0 .0) (c .before .before .before .before .before .before .before .before .length .given .0 .1 .0) (reads (c .before .before .before .before .before .before .before)) (list-short s) (c .before .before .before .before .before .before .if1 .left) _ (c .position-of .result) (c .before .before .before .pass2 .ensures .1) (c .position-of .ensures)
+returns-4 c =
+    let x = c .before .before .before .before .before .before .before in
+    let a = opened x in
+    let s = entry a in
+    call-read _ _ (s .args .start) _ (data-short s) (found a) (placed a)
+    (x .before .before .before .before .before .pass .ensures .1)
+    (reads x) (list-short s) (c .before .before .before .before .before .before .if1 .left)
+    (c .before .before .before .pass2 .ensures .1)
+    (c .position-of .ensures)
 
 pub string-unpack-spec : {M : Type 1} → statement M
 string-unpack-spec =
@@ -96,6 +158,8 @@ string-unpack-spec =
     enum-known-offset
     enum-told
     returns
+    start-requires
+    at-offset-requires
     table-requires
     pass-requires
     enum-known-k

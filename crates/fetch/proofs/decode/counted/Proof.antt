@@ -8,58 +8,76 @@ use borrow.Author.Needs.{needs}
 use Rattle.fetch.proofs.decode.counted.Statement.{statement}
 use Rattle.fetch.proofs.decode.counted.Tie as tie
 
-sub-if1 : tie.Need-sub-if1
-sub-if1 c = search needs
+left-requires : tie.Need-left-requires
+left-requires c κs = search needs
 
 returns : tie.Need-returns
-returns c = let s = c .before .before in counted-short (s .args .big) (s .args .size) (s .args .at) (s .args .«data» .now) (c .if1 .taken)
+returns c = counted-short _ _ _ _ (omega arith)
 
 get-unsigned-requires : tie.Need-get-unsigned-requires
 get-unsigned-requires c κs = search needs
 
-enum-known-k : tie.Need-enum-known-k
-enum-known-k c = search needs
+enum-known-n : tie.Need-enum-known-n
+enum-known-n c = search needs
 
 enum-told : tie.Need-enum-told
 enum-told c = search needs
 
 returns-2 : tie.Need-returns-2
-returns-2 c = let s = c .before .before .before .before .before in counted-wide (s .args .big) (s .args .size) (s .args .at) (s .args .«data» .now) (sym (ap unsignedOf (c .enum-told .given .1)) ∙ c .before .before .get-unsigned .ensures)
+returns-2 c = counted-wide _ _ _ _ (sym (ap unsignedOf (c .enum-told .given .1)) ∙ c .before .before .get-unsigned .ensures)
 
-add-text : tie.Need-add-text
-add-text c = search needs
+further-requires : tie.Need-further-requires
+further-requires c κs = search needs
 
 text-requires : tie.Need-text-requires
 text-requires c κs = search needs
 
-enum-known-number : tie.Need-enum-known-number
-enum-known-number c = search needs
+enum-known-k : tie.Need-enum-known-k
+enum-known-k c = search needs
 
 enum-known-r : tie.Need-enum-known-r
 enum-known-r c = search needs
 
 add-t17 : tie.Need-add-t17
-add-t17 c = let t = as-told (c .before .r .given .1) (c .before .before .before .text .ensures (c .before .before .before .before .before .before .before .before .before .before .args .big)) in omega (arith, t .inside .1)
+add-t17 c =
+    let t = c .before .before .before in
+    let s = t .before .before .before .before .before .before .before .before .before in
+    let p = as-told (c .before .r .given .1) (t .text .ensures (s .args .big)) in
+    omega (arith, p .inside .1, t .before .further .ensures)
 
 returns-3 : tie.Need-returns-3
-returns-3 c = let s = c .before .before .before .before .before .before .before .before .before .before in counted-refused (s .args .big) (s .args .size) (s .args .at) (s .args .«data» .now) (c .before .before .before .before .before .k .given .0 .0) (sym (ap unsignedOf (c .before .before .before .before .before .k .given .1)) ∙ c .before .before .before .before .before .before .before .get-unsigned .ensures) (c .before .number .given .0 .0) (as-told (c .before .number .given .1) (c .before .before .before .text .ensures (s .args .big)))
+returns-3 c =
+    let t = c .before .before .before in
+    let n = t .before .before .before in
+    let s = n .before .before .before .before .before .before in
+    counted-refused _ _ _ _
+    (sym (ap unsignedOf (n .n .given .1)) ∙ n .before .before .get-unsigned .ensures)
+    (t .before .further .ensures)
+    (as-told (c .before .k .given .1) (t .text .ensures (s .args .big)))
 
 returns-4 : tie.Need-returns-4
-returns-4 c = let s = c .before .before .before .before .before .before .before .before .before .before in counted-read (s .args .big) (s .args .size) (s .args .at) (s .args .«data» .now) (c .before .before .before .before .before .k .given .0 .0) (sym (ap unsignedOf (c .before .before .before .before .before .k .given .1)) ∙ c .before .before .before .before .before .before .before .get-unsigned .ensures) (c .before .r .given .0 .0) (c .before .r .given .0 .1 .0) (as-told (c .before .r .given .1) (c .before .before .before .text .ensures (s .args .big)))
+returns-4 c =
+    let t = c .before .before .before in
+    let n = t .before .before .before in
+    let s = n .before .before .before .before .before .before in
+    counted-read _ _ _ _
+    (sym (ap unsignedOf (n .n .given .1)) ∙ n .before .before .get-unsigned .ensures)
+    (t .before .further .ensures)
+    (as-told (c .before .r .given .1) (t .text .ensures (s .args .big)))
 
 pub counted-spec : {M : Type 1} → statement M
 counted-spec =
     tie.close
     (tie.spec
-    sub-if1
+    left-requires
     returns
     get-unsigned-requires
-    enum-known-k
+    enum-known-n
     enum-told
     returns-2
-    add-text
+    further-requires
     text-requires
-    enum-known-number
+    enum-known-k
     enum-known-r
     add-t17
     returns-3

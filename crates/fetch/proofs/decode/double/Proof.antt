@@ -8,7 +8,7 @@ get-word-requires : tie.Need-get-word-requires
 get-word-requires c κs = search needs
 
 returns : tie.Need-returns
-returns c = let s = c .before .before in double-read (s .args .big) 8 (s .args .at) (s .args .«data» .now) (c .get-word .result) (c .get-word .ensures .0) (s .pre)
+returns c = double-read _ _ _ 8 (c .get-word .ensures .0) (c .before .before .pre)
 
 pub double-spec : {M : Type 1} → statement M
 double-spec = tie.close (tie.spec get-word-requires returns)

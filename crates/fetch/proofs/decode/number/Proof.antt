@@ -1,16 +1,15 @@
 -- `number` meets its contract: 17 where the data end; kinds that are read alike have one function.
 use native.Mathlib.Omega.{arith}
-use Rattle.definition.specs.declared.Kind.the-variants.{Signed, Unsigned, Single, Double}
 use Rattle.fetch.proofs.Numbers.{number-short, signed-kind, unsigned-kind, alike, fixed, single-size, double-size}
 use borrow.Author.Needs.{needs}
 use Rattle.fetch.proofs.decode.number.Statement.{statement}
 use Rattle.fetch.proofs.decode.number.Tie as tie
 
-sub-if1 : tie.Need-sub-if1
-sub-if1 c = search needs
+left-requires : tie.Need-left-requires
+left-requires c κs = search needs
 
 returns : tie.Need-returns
-returns c = let s = c .before .before in number-short (s .args .big) (s .args .size) (s .args .at) (s .args .«data» .now) (s .args .kind) (c .if1 .taken)
+returns c = number-short _ _ _ _ _ (omega arith)
 
 signed-requires : tie.Need-signed-requires
 signed-requires c κs = search needs
@@ -22,31 +21,43 @@ enum-told : tie.Need-enum-told
 enum-told c = search needs
 
 single-requires : tie.Need-single-requires
-single-requires c κs = let s = c .before .before .before .before in let q = single-size (s .args .kind) (s .args .size) (s .pre .1) (c .enum-told .given .1) in omega arith
+single-requires c κs =
+    let s = c .before .before .before .before .before in
+    let q = single-size (s .args .kind) (s .args .size) (s .pre .1) (c .enum-told .given .1) in
+    omega arith
 
 enum-told-2 : tie.Need-enum-told-2
 enum-told-2 c = search needs
 
 double-requires : tie.Need-double-requires
-double-requires c κs = let s = c .before .before .before .before in let q = double-size (s .args .kind) (s .args .size) (s .pre .1) (c .enum-told2 .given .1) in omega arith
+double-requires c κs =
+    let s = c .before .before .before .before .before in
+    let q = double-size (s .args .kind) (s .args .size) (s .pre .1) (c .enum-told2 .given .1) in
+    omega arith
 
 returns-2 : tie.Need-returns-2
-returns-2 c = let s = c .before .before .before .before in alike (s .args .big) (s .args .size) (s .args .at) (s .args .«data» .now) (s .args .kind) Signed _ (signed-kind (s .args .kind) (c .before .match .keys1)) (c .signed .ensures)
+returns-2 c = alike (signed-kind (c .before .before .before .before .before .args .kind) (c .before .match .keys1)) (c .signed .ensures)
 
 returns-3 : tie.Need-returns-3
-returns-3 c = let s = c .before .before .before .before in alike (s .args .big) (s .args .size) (s .args .at) (s .args .«data» .now) (s .args .kind) Unsigned _ (unsigned-kind (s .args .kind) (c .before .match .keys2)) (c .unsigned .ensures)
+returns-3 c = alike (unsigned-kind (c .before .before .before .before .before .args .kind) (c .before .match .keys2)) (c .unsigned .ensures)
 
 returns-4 : tie.Need-returns-4
-returns-4 c = let s = c .before .before .before .before .before in fixed (s .args .big) (s .args .size) (s .args .at) (s .args .«data» .now) (s .args .kind) Single _ 4 (c .before .enum-told .given .1) (single-size (s .args .kind) (s .args .size) (s .pre .1) (c .before .enum-told .given .1)) (c .single .ensures)
+returns-4 c =
+    let s = c .before .before .before .before .before .before in
+    let k = c .before .enum-told .given .1 in
+    fixed k (single-size (s .args .kind) (s .args .size) (s .pre .1) k) (c .single .ensures)
 
 returns-5 : tie.Need-returns-5
-returns-5 c = let s = c .before .before .before .before .before in fixed (s .args .big) (s .args .size) (s .args .at) (s .args .«data» .now) (s .args .kind) Double _ 8 (c .before .enum-told2 .given .1) (double-size (s .args .kind) (s .args .size) (s .pre .1) (c .before .enum-told2 .given .1)) (c .double .ensures)
+returns-5 c =
+    let s = c .before .before .before .before .before .before in
+    let k = c .before .enum-told2 .given .1 in
+    fixed k (double-size (s .args .kind) (s .args .size) (s .pre .1) k) (c .double .ensures)
 
 pub number-spec : {M : Type 1} → statement M
 number-spec =
     tie.close
     (tie.spec
-    sub-if1
+    left-requires
     returns
     signed-requires
     unsigned-requires

@@ -16,10 +16,14 @@ enum-told : tie.Need-enum-told
 enum-told c = search needs
 
 returns : tie.Need-returns
-returns c = let s = c .before .before .before .before .before in signed-read (s .args .big) (s .args .size) (s .args .at) (s .args .«data» .now) _ (c .before .z .given .0 .0) (same-integer (c .before .z .given .0 .0) (c .known-told .given .0 .1)) (s .pre) (sym (ap signedOf (c .before .z .given .1)) ∙ c .before .before .before .get-signed .ensures)
+returns c =
+    let z = c .before in
+    signed-read _ _ _ _ (same-integer (z .z .given .0 .0) (c .known-told .given .0 .1))
+    (z .before .before .before .before .pre)
+    (sym (ap signedOf (z .z .given .1)) ∙ z .before .before .get-signed .ensures)
 
 returns-2 : tie.Need-returns-2
-returns-2 c = let s = c .before .before .before .before in signed-wide (s .args .big) (s .args .size) (s .args .at) (s .args .«data» .now) (sym (ap signedOf (c .enum-told .given .1)) ∙ c .before .before .get-signed .ensures)
+returns-2 c = signed-wide _ _ _ _ (sym (ap signedOf (c .enum-told .given .1)) ∙ c .before .before .get-signed .ensures)
 
 pub signed-spec : {M : Type 1} → statement M
 signed-spec = tie.close (tie.spec get-signed-requires enum-known-z enum-told returns returns-2)

@@ -14,7 +14,7 @@ from-single-requires : tie.Need-from-single-requires
 from-single-requires c κs = search needs
 
 returns : tie.Need-returns
-returns c = let s = c .before .before .before in single-read (s .args .big) 4 (s .args .at) (s .args .«data» .now) (c .from-single .result) (c .before .get-word .result) (c .from-single .ensures) (c .before .get-word .ensures .0) (s .pre)
+returns c = single-read _ _ _ 4 (c .from-single .ensures) (c .before .get-word .ensures .0) (c .before .before .before .pre)
 
 pub single-spec : {M : Type 1} → statement M
 single-spec = tie.close (tie.spec get-word-requires cast-from-single from-single-requires returns)

@@ -21,10 +21,15 @@ enum-told : tie.Need-enum-told
 enum-told c = search needs
 
 returns : tie.Need-returns
-returns c = let s = c .before .before .before .before .before .before in unsigned-read (s .args .big) (s .args .size) (s .args .at) (s .args .«data» .now) _ (c .before .before .word .given .0 .0) (toZ-ofZ (sfits-of {w = w64} (c .to-signed .ok)) ∙ c .to-signed .ensures) (s .pre) (sym (ap unsignedOf (c .before .before .word .given .1)) ∙ c .before .before .before .before .get-unsigned .ensures)
+returns c =
+    let w = c .before .before in
+    unsigned-read _ _ _ _ (w .word .given .0 .0)
+    (toZ-ofZ (sfits-of {w = w64} (c .to-signed .ok)) ∙ c .to-signed .ensures)
+    (w .before .before .before .before .pre)
+    (sym (ap unsignedOf (w .word .given .1)) ∙ w .before .before .get-unsigned .ensures)
 
 returns-2 : tie.Need-returns-2
-returns-2 c = let s = c .before .before .before .before in unsigned-wide (s .args .big) (s .args .size) (s .args .at) (s .args .«data» .now) (sym (ap unsignedOf (c .enum-told .given .1)) ∙ c .before .before .get-unsigned .ensures)
+returns-2 c = unsigned-wide _ _ _ _ (sym (ap unsignedOf (c .enum-told .given .1)) ∙ c .before .before .get-unsigned .ensures)
 
 pub unsigned-spec : {M : Type 1} → statement M
 unsigned-spec =

@@ -1,17 +1,18 @@
--- `zero_from` meets its contract. The invariant: no zero stands from `at` on and before i. The measure is what is left of the data.
+-- `zero_from` meets its contract. The invariant: no zero stands from `at`, where i starts, and before i. The measure is what is left of the data.
 use Prim.Native.Nat.{_-_}
 use native.Mathlib.Omega.{arith}
-use borrow.Author.Needs.{needs}
 use lib.ListN.{length}
+use borrow.Author.Needs.{needs}
+use Rattle.definition.specs.Reading.{offset}
 use Rattle.fetch.proofs.Texts.{NoZero, no-zero-yet, no-zero-more, zero-here, zero-nowhere}
 use Rattle.fetch.proofs.decode.zero_from.Statement.{statement}
 use Rattle.fetch.proofs.decode.zero_from.Tie as tie
 
 abbrev Inv-loop : tie.InvT-loop
-Inv-loop «data» at i₀ i = NoZero «data» at i
+Inv-loop «data» i₀ i = NoZero «data» (offset i₀) i
 
 abbrev μ-loop : tie.MeasureT-loop
-μ-loop «data» at i₀ i = length «data» - i
+μ-loop «data» i₀ i = length «data» - i
 
 loop-holds : tie.Need-loop-holds Inv-loop μ-loop
 loop-holds c = no-zero-yet _ _ (c .pre)
@@ -20,7 +21,7 @@ shared-slice-read-if1 : tie.Need-shared-slice-read-if1 Inv-loop μ-loop
 shared-slice-read-if1 c = search needs
 
 returns : tie.Need-returns Inv-loop μ-loop
-returns c = zero-here _ _ _ (c .before .before .before .loop .inv) (search needs) (c .if1 .taken)
+returns c = zero-here (c .before .before .before .loop .inv) (search needs) (c .if1 .taken)
 
 add-i : tie.Need-add-i Inv-loop μ-loop
 add-i c = search needs
@@ -29,10 +30,10 @@ loop-less : tie.Need-loop-less Inv-loop μ-loop
 loop-less c = omega arith
 
 loop-again : tie.Need-loop-again Inv-loop μ-loop
-loop-again c = no-zero-more _ _ _ (c .before .before .before .loop .inv) (search needs) (c .if1 .left)
+loop-again c = no-zero-more (c .before .before .before .loop .inv) (search needs) (c .if1 .left)
 
 returns-2 : tie.Need-returns-2 Inv-loop μ-loop
-returns-2 c = zero-nowhere _ _ _ (c .before .loop .inv) (search needs)
+returns-2 c = zero-nowhere (c .before .loop .inv) (search needs)
 
 pub zero-from-spec : {M : Type 1} → statement M
 zero-from-spec =

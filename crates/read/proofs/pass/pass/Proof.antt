@@ -1,4 +1,5 @@
--- `pass` meets its contract. The invariant: the values that were read so far, whose list has the total as its length and, with `put`, stands at the front of the buffer. The measure is what is left of the format.
+-- `pass` meets its contract. The invariant: the values that were read so far, whose list has the total as its length and, with `put`, stands
+-- at the front of the buffer. The measure is what is left of the format.
 use Prim.Native.Nat.{_^_, _-_, _<_}
 use native.Mathlib.Omega.{arith}
 use mathlib.Core.Path.{_≡_, sym, ap, _∙_}
@@ -23,8 +24,12 @@ list-short : (s : tie.Start Inv-loop μ-loop) → length (s .args .list .now) < 
 list-short s = omega (arith, s .good .1 .1 .1 .1 .0 .1)
 
 -- the item that the cursor read
-item : (c : tie.After-op Inv-loop μ-loop) → nextAt (c .before .before .before .before .before .loop .c .at) (drop (c .before .before .before .before .before .loop .c .at) (c .before .before .before .before .before .before .before .before .before .before .args .format .now)) ≡ accepted (some (c .op .result, c .before .before .i .given .0 .1 .0 .at))
-item c = sym (c .before .before .before .before .next .ensures) ∙ ap nextOf (c .before .before .i .given .1) ∙ ap (λ (o : Op). accepted (some (o, c .before .before .i .given .0 .1 .0 .at))) (sym (c .op .ensures))
+item : (c : tie.After-op Inv-loop μ-loop) → let l = c .before .before .before .before .before in
+    nextAt (l .loop .c .at) (drop (l .loop .c .at) (l .before .before .before .before .before .args .format .now))
+    ≡ accepted (some (c .op .result, c .before .before .i .given .0 .1 .0 .at))
+item c =
+    let x = c .before .before in
+    sym (x .before .before .next .ensures) ∙ ap nextOf (x .i .given .1) ∙ ap (λ (o : Op). accepted (some (o, x .i .given .0 .1 .0 .at))) (sym (c .op .ensures))
 
 new-requires : tie.Need-new-requires Inv-loop μ-loop
 new-requires c κs = tt
@@ -38,20 +43,30 @@ next-requires c κs = c .before .before .before .before .before .pre .0
 enum-told : tie.Need-enum-told Inv-loop μ-loop
 enum-told c = c .match .keys1
 
+offset-in-requires : tie.Need-offset-in-requires Inv-loop μ-loop
+offset-in-requires c κs = tt
+
 same-length : tie.Need-same-length Inv-loop μ-loop
-same-length c = passing-length (c .before .before .before .loop .inv) (c .before .before .before .before .before .before .before .before .pre .1 .1)
+same-length c = let l = c .before .before .before .before in passing-length (l .loop .inv) (l .before .before .before .before .before .pre .1 .1)
 
 returns : tie.Need-returns Inv-loop μ-loop
-returns c = passing-end (c .before .before .before .loop .inv) (c .before .before .before .before .before .before .before .before .pre .1 .1) (sym (c .before .before .next .ensures) ∙ ap nextOf (c .enum-told .given .1))
+returns c =
+    let l = c .before .before .before .before in
+    passing-end (l .loop .inv) (l .before .before .before .before .before .pre .1 .1)
+    (c .offset-in .ensures)
+    (sym (c .before .before .before .next .ensures) ∙ ap nextOf (c .before .enum-told .given .1))
 
 enum-known-k : tie.Need-enum-known-k Inv-loop μ-loop
 enum-known-k c = c .match .keys2
 
 same-length-2 : tie.Need-same-length-2 Inv-loop μ-loop
-same-length-2 c = passing-length (c .before .before .before .before .loop .inv) (c .before .before .before .before .before .before .before .before .before .pre .1 .1)
+same-length-2 c = let l = c .before .before .before .before in passing-length (l .loop .inv) (l .before .before .before .before .before .pre .1 .1)
 
 returns-2 : tie.Need-returns-2 Inv-loop μ-loop
-returns-2 c = passing-refusal (c .before .before .before .before .loop .inv) (c .before .before .before .before .before .before .before .before .before .pre .1 .1) (sym (c .before .before .before .next .ensures) ∙ ap nextOf (c .before .k .given .1))
+returns-2 c =
+    let l = c .before .before .before .before in
+    passing-refusal (l .loop .inv) (l .before .before .before .before .before .pre .1 .1)
+    (sym (c .before .before .before .next .ensures) ∙ ap nextOf (c .before .k .given .1))
 
 enum-known-i : tie.Need-enum-known-i Inv-loop μ-loop
 enum-known-i c = c .match .keys3
@@ -60,33 +75,45 @@ op-requires : tie.Need-op-requires Inv-loop μ-loop
 op-requires c κs = tt
 
 read-op-requires : tie.Need-read-op-requires Inv-loop μ-loop
-read-op-requires c κs = (c .before .before .before .before .before .loop .inv .so-far .stands, valid (c .before .before .before .before .before .before .before .before .before .before .args .format .now) (c .before .before .before .before .before .loop .c .at) (item c))
+read-op-requires c κs =
+    let l = c .before .before .before .before .before in
+    (l .loop .inv .so-far .stands, valid (l .before .before .before .before .before .args .format .now) (l .loop .c .at) (item c))
 
 enum-known-k-2 : tie.Need-enum-known-k-2 Inv-loop μ-loop
 enum-known-k-2 c = c .match2 .keys1
 
 same-length-3 : tie.Need-same-length-3 Inv-loop μ-loop
-same-length-3 c = passing-length (c .before .before .before .before .before .before .before .before .before .loop .inv) (c .before .before .before .before .before .before .before .before .before .before .before .before .before .before .pre .1 .1)
+same-length-3 c =
+    let l = c .before .before .before .before .before .before .before .before .before in
+    passing-length (l .loop .inv) (l .before .before .before .before .before .pre .1 .1)
 
 returns-3 : tie.Need-returns-3 Inv-loop μ-loop
-returns-3 c = passing-refused (c .before .before .before .before .before .before .before .before .before .loop .inv) (c .before .before .before .before .before .before .before .before .before .before .before .before .before .before .pre .1 .1) (item (c .before .before .before .before)) (c .before .before .before .read-op .ensures) (c .before .k2 .given .1)
+returns-3 c =
+    let o = c .before .before .before .before in
+    let l = o .before .before .before .before .before in
+    passing-refused (l .loop .inv) (l .before .before .before .before .before .pre .1 .1)
+    (item o) (c .before .before .before .read-op .ensures) (c .before .k2 .given .1)
 
 enum-known-t : tie.Need-enum-known-t Inv-loop μ-loop
 enum-known-t c = c .match2 .keys2
 
+same-requires : tie.Need-same-requires Inv-loop μ-loop
+same-requires c κs = tt
+
 loop-less : tie.Need-loop-less Inv-loop μ-loop
 loop-less c =
-    let o = c .before .before .before .before in
+    let o = c .before .before .before .before .before in
     let l = o .before .before .before .before .before in
     let h = ahead (l .before .before .before .before .before .args .format .now) (l .loop .c .at) (item o) in
     omega arith
 
 loop-again : tie.Need-loop-again Inv-loop μ-loop
 loop-again c =
-    let x = c .before in
+    let x = c .before .before in
     let o = x .before .before .before in
     let l = o .before .before .before .before .before in
-    passing-set (l .loop .inv) (l .before .before .before .before .before .pre .1 .1) (item o) (x .before .before .read-op .ensures) (x .t .given .1)
+    passing-set (l .loop .inv) (l .before .before .before .before .before .pre .1 .1)
+    (item o) (x .before .before .read-op .ensures) (x .t .given .1) (c .same .ensures)
 
 enum-known-r : tie.Need-enum-known-r Inv-loop μ-loop
 enum-known-r c = c .match2 .keys3
@@ -109,16 +136,19 @@ size-of-requires c κs =
 sum-requires : tie.Need-sum-requires Inv-loop μ-loop
 sum-requires c κs = c .size-of .ensures .1
 
+at-offset-requires : tie.Need-at-offset-requires Inv-loop μ-loop
+at-offset-requires c κs = tt
+
 loop-less-2 : tie.Need-loop-less-2 Inv-loop μ-loop
 loop-less-2 c =
-    let o = c .before .before .before .before .before .before .before in
+    let o = c .before .before .before .before .before .before .before .before in
     let l = o .before .before .before .before .before in
     let h = ahead (l .before .before .before .before .before .args .format .now) (l .loop .c .at) (item o) in
     omega arith
 
 loop-again-2 : tie.Need-loop-again-2 Inv-loop μ-loop
 loop-again-2 c =
-    let x = c .before .before .before .before in
+    let x = c .before .before .before .before .before in
     let o = x .before .before .before in
     let l = o .before .before .before .before .before in
     let s = l .before .before .before .before .before in
@@ -127,9 +157,10 @@ loop-again-2 c =
     (⊎-elim
     (λ w. passing-put (l .loop .inv) (s .pre .1 .1) (item o) g (x .r .given .1) (w .0 .taken) (list-short s) _ (w .5 ∙ w .2 .ensures))
     (λ w. w .1 ∙ passing-kept (l .loop .inv) (s .pre .1 .1) (item o) g (x .r .given .1) (w .0 .left))
-    (c .before .before .if1 .came))
-    (c .before .size-of .ensures .0)
-    (c .sum .ensures)
+    (c .before .before .before .if1 .came))
+    (c .before .before .size-of .ensures .0)
+    (c .before .sum .ensures)
+    (c .at-offset .ensures)
 
 pub pass-spec : {M : Type 1} → statement M
 pass-spec =
@@ -141,6 +172,7 @@ pass-spec =
     loop-holds
     next-requires
     enum-told
+    offset-in-requires
     same-length
     returns
     enum-known-k
@@ -153,11 +185,13 @@ pass-spec =
     same-length-3
     returns-3
     enum-known-t
+    same-requires
     loop-less
     loop-again
     enum-known-r
     put-reading-requires
     size-of-requires
     sum-requires
+    at-offset-requires
     loop-less-2
     loop-again-2)

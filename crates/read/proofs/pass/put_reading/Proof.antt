@@ -16,37 +16,58 @@ enum-known-r : tie.Need-enum-known-r
 enum-known-r c = search needs
 
 put-integer-requires : tie.Need-put-integer-requires
-put-integer-requires c κs = let s = c .before .before .before .before .before .before in room-for (s .args .at) (s .args .list .now) (c .before .before .r .given .1) (s .pre .0)
+put-integer-requires c κs =
+    let x = c .before .before in
+    let s = x .before .before .before .before in
+    room-for (s .args .at) (s .args .list .now) (x .r .given .1) (s .pre .0)
 
 enum-known-r-2 : tie.Need-enum-known-r-2
 enum-known-r-2 c = search needs
 
 put-float-requires : tie.Need-put-float-requires
-put-float-requires c κs = let s = c .before .before .before .before .before .before in room-for (s .args .at) (s .args .list .now) (c .before .before .r2 .given .1) (s .pre .0)
+put-float-requires c κs =
+    let x = c .before .before in
+    let s = x .before .before .before .before in
+    room-for (s .args .at) (s .args .list .now) (x .r2 .given .1) (s .pre .0)
 
 enum-known-r-3 : tie.Need-enum-known-r-3
 enum-known-r-3 c = search needs
 
 put-text-requires : tie.Need-put-text-requires
-put-text-requires c κs = let s = c .before .before .before .before .before .before in (omega (arith, room-for (s .args .at) (s .args .list .now) (c .before .before .r3 .given .1) (s .pre .0)), text-inside (s .args .«data» .now) (c .before .before .r3 .given .1) (s .pre .1))
+put-text-requires c κs =
+    let x = c .before .before in
+    let s = x .before .before .before .before in
+    let room = room-for (s .args .at) (s .args .list .now) (x .r3 .given .1) (s .pre .0) in
+    (omega (arith, room), text-inside (s .args .«data» .now) (x .r3 .given .1) (s .pre .1))
 
 same-length : tie.Need-same-length
 same-length c = search needs
 
 returns : tie.Need-returns
-returns c = let s = c .before .before .before .before .before .before .before .before .before in field-put (s .args .«data» .now) _ (s .args .list .now) (s .args .at) (c .before .before .before .before .before .r .given .1) (c .before .before .put-integer .ensures ∙ ap (λ (z : ℤ). paste (s .args .list .now) (s .args .at) (listOf (integer z ∷ [])) 11) (same-integer (c .before .before .before .before .before .r .given .0 .0) (c .before .before .before .before .known-told .given .0 .1)))
+returns c =
+    let x = c .before .before .before .before .before in
+    let s = x .before .before .before .before in
+    let z = same-integer (x .r .given .0 .0) (c .before .before .before .before .known-told .given .0 .1) in
+    field-put (s .args .«data» .now) _ (s .args .list .now) (s .args .at) (x .r .given .1)
+    (c .before .before .put-integer .ensures ∙ ap (λ (y : ℤ). paste (s .args .list .now) (s .args .at) (listOf (integer y ∷ [])) 11) z)
 
 same-length-2 : tie.Need-same-length-2
 same-length-2 c = search needs
 
 returns-2 : tie.Need-returns-2
-returns-2 c = let s = c .before .before .before .before .before .before .before .before .before in field-put (s .args .«data» .now) _ (s .args .list .now) (s .args .at) (c .before .before .before .before .before .r2 .given .1) (c .before .before .put-float .ensures)
+returns-2 c =
+    let x = c .before .before .before .before .before in
+    let s = x .before .before .before .before in
+    field-put (s .args .«data» .now) _ (s .args .list .now) (s .args .at) (x .r2 .given .1) (c .before .before .put-float .ensures)
 
 same-length-3 : tie.Need-same-length-3
 same-length-3 c = search needs
 
 returns-3 : tie.Need-returns-3
-returns-3 c = let s = c .before .before .before .before .before .before .before .before .before in field-put (s .args .«data» .now) _ (s .args .list .now) (s .args .at) (c .before .before .before .before .before .r3 .given .1) (c .before .before .put-text .ensures)
+returns-3 c =
+    let x = c .before .before .before .before .before in
+    let s = x .before .before .before .before in
+    field-put (s .args .«data» .now) _ (s .args .list .now) (s .args .at) (x .r3 .given .1) (c .before .before .put-text .ensures)
 
 pub put-reading-spec : {M : Type 1} → statement M
 put-reading-spec =
