@@ -23,9 +23,16 @@ abbrev μ-loop : tie.MeasureT-loop
 list-short : (s : tie.Start Inv-loop μ-loop) → length (s .args .list .now) < 2 ^ 63
 list-short s = omega (arith, s .good .1 .1 .1 .1 .0 .1)
 
+-- the loop and the entry, from later places
+abbrev looped : tie.After-op Inv-loop μ-loop → tie.At-loop Inv-loop μ-loop
+looped o = o .before .before .before .before .before
+
+abbrev entry : tie.At-loop Inv-loop μ-loop → tie.Start Inv-loop μ-loop
+entry l = l .before .before .before .before .before
+
 -- the item that the cursor read
-item : (c : tie.After-op Inv-loop μ-loop) → let l = c .before .before .before .before .before in
-    nextAt (l .loop .c .at) (drop (l .loop .c .at) (l .before .before .before .before .before .args .format .now))
+item : (c : tie.After-op Inv-loop μ-loop) → let l = looped c in
+    nextAt (l .loop .c .at) (drop (l .loop .c .at) (entry l .args .format .now))
     ≡ accepted (some (c .op .result, c .before .before .i .given .0 .1 .0 .at))
 item c =
     let x = c .before .before in
@@ -47,12 +54,12 @@ offset-in-requires : tie.Need-offset-in-requires Inv-loop μ-loop
 offset-in-requires c κs = tt
 
 same-length : tie.Need-same-length Inv-loop μ-loop
-same-length c = let l = c .before .before .before .before in passing-length (l .loop .inv) (l .before .before .before .before .before .pre .1 .1)
+same-length c = let l = c .before .before .before .before in passing-length (l .loop .inv) (entry l .pre .1 .1)
 
 returns : tie.Need-returns Inv-loop μ-loop
 returns c =
     let l = c .before .before .before .before in
-    passing-end (l .loop .inv) (l .before .before .before .before .before .pre .1 .1)
+    passing-end (l .loop .inv) (entry l .pre .1 .1)
     (c .offset-in .ensures)
     (sym (c .before .before .before .next .ensures) ∙ ap nextOf (c .before .enum-told .given .1))
 
@@ -60,12 +67,12 @@ enum-known-k : tie.Need-enum-known-k Inv-loop μ-loop
 enum-known-k c = c .match .keys2
 
 same-length-2 : tie.Need-same-length-2 Inv-loop μ-loop
-same-length-2 c = let l = c .before .before .before .before in passing-length (l .loop .inv) (l .before .before .before .before .before .pre .1 .1)
+same-length-2 c = let l = c .before .before .before .before in passing-length (l .loop .inv) (entry l .pre .1 .1)
 
 returns-2 : tie.Need-returns-2 Inv-loop μ-loop
 returns-2 c =
     let l = c .before .before .before .before in
-    passing-refusal (l .loop .inv) (l .before .before .before .before .before .pre .1 .1)
+    passing-refusal (l .loop .inv) (entry l .pre .1 .1)
     (sym (c .before .before .before .next .ensures) ∙ ap nextOf (c .before .k .given .1))
 
 enum-known-i : tie.Need-enum-known-i Inv-loop μ-loop
@@ -76,22 +83,22 @@ op-requires c κs = tt
 
 read-op-requires : tie.Need-read-op-requires Inv-loop μ-loop
 read-op-requires c κs =
-    let l = c .before .before .before .before .before in
-    (l .loop .inv .so-far .stands, valid (l .before .before .before .before .before .args .format .now) (l .loop .c .at) (item c))
+    let l = looped c in
+    (l .loop .inv .so-far .stands, valid (entry l .args .format .now) (l .loop .c .at) (item c))
 
 enum-known-k-2 : tie.Need-enum-known-k-2 Inv-loop μ-loop
 enum-known-k-2 c = c .match2 .keys1
 
 same-length-3 : tie.Need-same-length-3 Inv-loop μ-loop
 same-length-3 c =
-    let l = c .before .before .before .before .before .before .before .before .before in
-    passing-length (l .loop .inv) (l .before .before .before .before .before .pre .1 .1)
+    let l = looped (c .before .before .before .before) in
+    passing-length (l .loop .inv) (entry l .pre .1 .1)
 
 returns-3 : tie.Need-returns-3 Inv-loop μ-loop
 returns-3 c =
     let o = c .before .before .before .before in
-    let l = o .before .before .before .before .before in
-    passing-refused (l .loop .inv) (l .before .before .before .before .before .pre .1 .1)
+    let l = looped o in
+    passing-refused (l .loop .inv) (entry l .pre .1 .1)
     (item o) (c .before .before .before .read-op .ensures) (c .before .k2 .given .1)
 
 enum-known-t : tie.Need-enum-known-t Inv-loop μ-loop
@@ -103,16 +110,16 @@ same-requires c κs = tt
 loop-less : tie.Need-loop-less Inv-loop μ-loop
 loop-less c =
     let o = c .before .before .before .before .before in
-    let l = o .before .before .before .before .before in
-    let h = ahead (l .before .before .before .before .before .args .format .now) (l .loop .c .at) (item o) in
+    let l = looped o in
+    let h = ahead (entry l .args .format .now) (l .loop .c .at) (item o) in
     omega arith
 
 loop-again : tie.Need-loop-again Inv-loop μ-loop
 loop-again c =
     let x = c .before .before in
     let o = x .before .before .before in
-    let l = o .before .before .before .before .before in
-    passing-set (l .loop .inv) (l .before .before .before .before .before .pre .1 .1)
+    let l = looped o in
+    passing-set (l .loop .inv) (entry l .pre .1 .1)
     (item o) (x .before .before .read-op .ensures) (x .t .given .1) (c .same .ensures)
 
 enum-known-r : tie.Need-enum-known-r Inv-loop μ-loop
@@ -122,16 +129,16 @@ put-reading-requires : tie.Need-put-reading-requires Inv-loop μ-loop
 put-reading-requires c κs =
     let x = c .before .before .before in
     let o = x .before .before .before in
-    let l = o .before .before .before .before .before in
-    let s = l .before .before .before .before .before in
+    let l = looped o in
+    let s = entry l in
     passing-room (l .loop .inv) (s .pre .1 .1) (item o) (x .before .before .read-op .ensures) (x .r .given .1) (c .before .if1 .taken) (list-short s)
 
 size-of-requires : tie.Need-size-of-requires Inv-loop μ-loop
 size-of-requires c κs =
     let x = c .before .before in
     let o = x .before .before .before in
-    let l = o .before .before .before .before .before in
-    passing-short (l .loop .inv) (l .before .before .before .before .before .pre .1 .1) (item o) (x .before .before .read-op .ensures) (x .r .given .1)
+    let l = looped o in
+    passing-short (l .loop .inv) (entry l .pre .1 .1) (item o) (x .before .before .read-op .ensures) (x .r .given .1)
 
 sum-requires : tie.Need-sum-requires Inv-loop μ-loop
 sum-requires c κs = c .size-of .ensures .1
@@ -142,16 +149,16 @@ at-offset-requires c κs = tt
 loop-less-2 : tie.Need-loop-less-2 Inv-loop μ-loop
 loop-less-2 c =
     let o = c .before .before .before .before .before .before .before .before in
-    let l = o .before .before .before .before .before in
-    let h = ahead (l .before .before .before .before .before .args .format .now) (l .loop .c .at) (item o) in
+    let l = looped o in
+    let h = ahead (entry l .args .format .now) (l .loop .c .at) (item o) in
     omega arith
 
 loop-again-2 : tie.Need-loop-again-2 Inv-loop μ-loop
 loop-again-2 c =
     let x = c .before .before .before .before .before in
     let o = x .before .before .before in
-    let l = o .before .before .before .before .before in
-    let s = l .before .before .before .before .before in
+    let l = looped o in
+    let s = entry l in
     let g = x .before .before .read-op .ensures in
     passing-more (l .loop .inv) (s .pre .1 .1) (item o) g (x .r .given .1)
     (⊎-elim
