@@ -422,7 +422,7 @@ static int pushed_bytes(lua_State *L)
 /*
  * writer:pack(fmt, v1, v2, ...): the part's bytes, how many values it used, how many items it ran
  *
- * Where there is no memory for the bytes, the writer goes back to where it was.
+ * Where there is no memory for the bytes, the writer goes back to where it was, unless a finalizer has used it since.
  */
 static int writer_pack(lua_State *L)
 {
@@ -432,7 +432,8 @@ static int writer_pack(lua_State *L)
     lua_pushcfunction(L, pushed_bytes);
     lua_pushlightuserdata(L, &part);
     if (lua_pcall(L, 1, 1, 0) != LUA_OK) {
-        *state = part.from;
+        if (memcmp(state, &part.answer.next, sizeof *state) == 0)
+            *state = part.from;
         return lua_error(L);
     }
     lua_pushinteger(L, (lua_Integer)part.answer.used);

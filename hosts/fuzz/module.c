@@ -1,0 +1,315 @@
+/*
+ * A fuzz target over the Lua module, for libFuzzer, with memory that can't be had. An input is
+ *   - a byte each: the function; the float environment; the state or the start; the format's length;
+ *   - the format;
+ *   - the bytes of which values and data are made.
+ *
+ * The function is called where 0, 1, 2 .. blocks of memory can be had, until these suffice. Each lack of memory must be
+ * raised as Lua's error, and leave a writer as it was. Then what the function gives is held to the header's calls. All
+ * memory is given back, and the float environment stays.
+ */
+#include "../include/digribbon.h"
+#include <lauxlib.h>
+#include <lua.h>
+#include <stdbool.h>
+#include <stdio.h>
+#include <stdlib.h>
+#include <string.h>
+#include <xmmintrin.h>
+
+enum { ROOM = 1 << 20, LARGEST_BLOCK = 1 << 22, SLACK = 1 << 20, TRIES = 40, VALUES = 100, LONGEST = 65535 };
+
+#define HOLD(promise) \
+    do { \
+        if (!(promise)) { \
+            fprintf(stderr, "module.c:%d: broken: %s\n", __LINE__, #promise); \
+            abort(); \
+        } \
+    } while (0)
+
+typedef struct {
+    const uint8_t *start;
+    size_t length;
+} Slice;
+
+typedef struct {
+    uint64_t order, limit, length;
+} State;
+
+/* What the header's call gives: a refusal's number, or 0, the answer's words, the record or the list. */
+static struct {
+    uint64_t number, words[6];
+    uint8_t result[ROOM];
+} expected;
+
+int luaopen_digribbon(lua_State *L);
+
+/* ---- memory */
+
+static struct {
+    size_t used;
+    long left; /* how many more blocks can be had; below 0, as many as are wanted */
+} memory = {0, -1};
+
+static void *allocate(void *data, void *block, size_t size, size_t new_size)
+{
+    size_t old_size = block == NULL ? 0 : size;
+    void *moved;
+    (void)data;
+    if (new_size > old_size) {
+        if (memory.left == 0 || new_size > LARGEST_BLOCK)
+            return NULL;
+        memory.left -= memory.left > 0;
+    }
+    memory.used += new_size - old_size;
+    if (new_size == 0) {
+        free(block);
+        return NULL;
+    }
+    moved = realloc(block, new_size);
+    HOLD(moved != NULL);
+    return moved;
+}
+
+/* ---- values */
+
+enum { OTHER, INTEGER, FLOAT, TEXT };
+
+static struct {
+    uint8_t bytes[ROOM];
+    size_t length;
+    int count;
+    bool has_long_text;
+} list;
+
+static uint8_t long_text[LONGEST + 1];
+
+static void add_field(int tag, const void *content, size_t length)
+{
+    HOLD(list.length + 3 + length <= ROOM);
+    memcpy(list.bytes + list.length, (uint8_t[]){(uint8_t)tag, (uint8_t)(length / 256), (uint8_t)(length % 256)}, 3);
+    memcpy(list.bytes + list.length + 3, content, length);
+    list.length += 3 + length;
+    list.count++;
+}
+
+/* Pushes a value of bytes, adds it to the list, and gives how many bytes it took. */
+static size_t push_value(lua_State *L, Slice bytes)
+{
+    uint8_t kind = bytes.start[0] % 6, number[8] = {0};
+    uint64_t bits = 0;
+    double as_float;
+    if (kind == TEXT || kind == 4) { /* a text; one of 65,535 bytes, or of one more */
+        size_t wanted = bytes.length > 1 ? bytes.start[1] : 0, there = bytes.length > 2 ? bytes.length - 2 : 0;
+        Slice text = {bytes.start + bytes.length - there, wanted < there ? wanted : there};
+        if (kind == 4)
+            text = (Slice){long_text, LONGEST + wanted % 2};
+        lua_pushlstring(L, (const char *)text.start, text.length);
+        list.has_long_text = list.has_long_text || text.length > LONGEST;
+        add_field(text.length > LONGEST ? OTHER : TEXT, text.start, text.length > LONGEST ? 0 : text.length);
+        return kind == 4 ? 2 : 2 + text.length;
+    }
+    memcpy(number, bytes.start + 1, bytes.length - 1 < 8 ? bytes.length - 1 : 8);
+    for (int i = 0; i < 8; i++)
+        bits = bits * 256 + number[i];
+    memcpy(&as_float, &bits, 8);
+    if (kind == INTEGER)
+        lua_pushinteger(L, (lua_Integer)bits);
+    else if (kind == FLOAT)
+        lua_pushnumber(L, as_float);
+    else
+        lua_pushboolean(L, kind == 5);
+    add_field(kind == INTEGER || kind == FLOAT ? kind : OTHER, number, kind == INTEGER || kind == FLOAT ? 8 : 0);
+    return kind == INTEGER || kind == FLOAT ? 9 : 1;
+}
+
+static void push_values(lua_State *L, Slice bytes)
+{
+    list.length = 0;
+    list.count = 0;
+    list.has_long_text = false;
+    while (bytes.length > 0 && list.count < VALUES && list.length < 3 * LONGEST) {
+        size_t taken = push_value(L, bytes);
+        taken = taken < bytes.length ? taken : bytes.length;
+        bytes = (Slice){bytes.start + taken, bytes.length - taken};
+    }
+}
+
+/* ---- what a function gave, from the stack's index `first` on */
+
+static void check_results(lua_State *L, int first)
+{
+    const uint8_t *field = expected.result, *end = field + expected.words[0];
+    for (; field < end; first++) {
+        size_t length = (size_t)field[1] * 256 + field[2];
+        uint64_t bits = 0, given;
+        lua_Number as_float = lua_tonumber(L, first);
+        for (size_t i = 0; i < 8 && field[0] != TEXT; i++)
+            bits = bits * 256 + field[3 + i];
+        memcpy(&given, &as_float, 8);
+        if (field[0] == TEXT)
+            HOLD(lua_type(L, first) == LUA_TSTRING && lua_rawlen(L, first) == length &&
+                 memcmp(lua_tostring(L, first), field + 3, length) == 0);
+        else if (field[0] == INTEGER)
+            HOLD(lua_isinteger(L, first) && (uint64_t)lua_tointeger(L, first) == bits);
+        else
+            HOLD(lua_type(L, first) == LUA_TNUMBER && !lua_isinteger(L, first) && given == bits);
+        field += 3 + length;
+    }
+    HOLD(lua_gettop(L) == first && (uint64_t)lua_tointeger(L, first) == expected.words[1]);
+}
+
+static void check_record(lua_State *L, int first)
+{
+    HOLD(lua_type(L, first) == LUA_TSTRING && lua_rawlen(L, first) == expected.words[3]);
+    HOLD(memcmp(lua_tostring(L, first), expected.result, expected.words[3]) == 0);
+}
+
+/* The refusal's number; of writing the value too, where it is about one. */
+static void check_refusal(lua_State *L, bool is_writing)
+{
+    if (list.has_long_text && expected.number == DIGRIBBON_WRONG_KIND && lua_type(L, -1) == LUA_TSTRING) {
+        HOLD(strstr(lua_tostring(L, -1), "65,535") != NULL);
+        return;
+    }
+    HOLD(lua_istable(L, -1) && lua_getfield(L, -1, "number") == LUA_TNUMBER);
+    HOLD((uint64_t)lua_tointeger(L, -1) == expected.number);
+    lua_getfield(L, -2, "value");
+    if (is_writing && expected.number >= 11 && expected.number <= 15)
+        HOLD(lua_tointeger(L, -1) >= 1 && lua_tointeger(L, -1) <= list.count + (expected.number == 11));
+    else
+        HOLD(lua_isnil(L, -1));
+    lua_pop(L, 2);
+    HOLD(strstr(luaL_tolstring(L, -1, NULL), "bad argument #") != NULL);
+}
+
+/* ---- an input */
+
+enum { PACK, PACKSIZE, UNPACK, WRITER, FUNCTIONS };
+
+static lua_State *lua;
+static int module;
+static size_t memory_at_start;
+
+/* Pushes the function and its arguments, and works out what is expected. */
+static void prepare(int function, State from, int64_t start, Slice format, Slice rest)
+{
+    static const char *const names[] = {"pack", "packsize", "unpack", "writer"};
+    lua_rawgeti(lua, LUA_REGISTRYINDEX, module);
+    lua_getfield(lua, -1, names[function]);
+    if (function == WRITER) {
+        lua_pushstring(lua, from.order ? ">" : "<");
+        lua_pushinteger(lua, (lua_Integer)from.limit);
+        lua_pushinteger(lua, (lua_Integer)from.length);
+        lua_call(lua, 3, 1);
+        lua_getfield(lua, -1, "pack");
+        lua_insert(lua, -2);
+    }
+    lua_remove(lua, 1);
+    lua_pushlstring(lua, (const char *)format.start, format.length);
+    if (function == PACKSIZE) {
+        expected.number = digribbon_packsize(format.start, format.length, expected.words);
+    } else if (function == UNPACK) {
+        lua_pushlstring(lua, (const char *)rest.start, rest.length);
+        lua_pushinteger(lua, start);
+        expected.number = digribbon_unpack(format.start, format.length, rest.start, rest.length, start,
+                                           expected.result, ROOM, expected.words);
+    } else {
+        push_values(lua, rest);
+        expected.number = digribbon_pack_continued(from.order, from.limit, from.length, format.start, format.length,
+                                                   list.bytes, list.length, expected.result, ROOM, expected.words);
+    }
+}
+
+/* Calls the function, which stands at the stack's front with its arguments, with so many blocks of memory. */
+static int call(long blocks, unsigned environment)
+{
+    int arguments = lua_gettop(lua), status;
+    HOLD(lua_checkstack(lua, arguments + LUA_MINSTACK));
+    for (int i = 1; i <= arguments; i++)
+        lua_pushvalue(lua, i);
+    memory.left = blocks;
+    _mm_setcsr(environment);
+    status = lua_pcall(lua, arguments - 1, LUA_MULTRET, 0);
+    HOLD((_mm_getcsr() & ~0x3Fu) == environment);
+    _mm_setcsr(0x1F80);
+    memory.left = -1;
+    return status;
+}
+
+static void check(int function, int status, int first, const State *state, State from)
+{
+    bool is_writing = function == PACK || function == WRITER;
+    State next = {expected.words[0], expected.words[1], expected.words[2]};
+    if (expected.number == DIGRIBBON_RESULT_TOO_LONG) { /* only the result's length is in the way */
+        HOLD(status == LUA_OK || status == LUA_ERRMEM);
+        return;
+    }
+    HOLD((status == LUA_OK) == (expected.number == 0));
+    HOLD(state == NULL || memcmp(state, status == LUA_OK ? &next : &from, sizeof from) == 0);
+    if (status != LUA_OK) {
+        check_refusal(lua, is_writing);
+    } else if (function == PACKSIZE) {
+        HOLD((uint64_t)lua_tointeger(lua, first) == expected.words[0]);
+    } else if (function == UNPACK) {
+        check_results(lua, first);
+    } else {
+        check_record(lua, first);
+        HOLD(function == PACK || ((uint64_t)lua_tointeger(lua, first + 1) == expected.words[4] &&
+                                  (uint64_t)lua_tointeger(lua, first + 2) == expected.words[5]));
+    }
+}
+
+int LLVMFuzzerInitialize(int *argc, char ***argv)
+{
+    (void)argc;
+    (void)argv;
+    memset(long_text, 'A', sizeof long_text);
+    lua = lua_newstate(allocate, NULL);
+    HOLD(lua != NULL);
+    luaL_requiref(lua, "digribbon", luaopen_digribbon, 0);
+    module = luaL_ref(lua, LUA_REGISTRYINDEX);
+    lua_gc(lua, LUA_GCCOLLECT);
+    memory_at_start = memory.used;
+    return 0;
+}
+
+int LLVMFuzzerTestOneInput(const uint8_t *input, size_t size)
+{
+    enum { FUNCTION, ENVIRONMENT, STATE, LENGTH, HEAD };
+    /* The default; rounding down, up, to zero; subnormal numbers as zeros; all traps; some of these. */
+    static const unsigned environments[] = {0x1F80, 0x3F80, 0x5F80, 0x7F80, 0x9FC0, 0x0000, 0x6000, 0xBFC0};
+    static const uint64_t limits[] = {1, 2, 4, 8, 16};
+    static const uint64_t lengths[] = {0, 1, 15, INT64_MAX - 30, INT64_MAX};
+    Slice format, rest;
+    State from;
+    const State *state;
+    int function, arguments, status = LUA_ERRMEM;
+    unsigned environment;
+    if (size < HEAD)
+        return 0;
+    function = input[FUNCTION] % FUNCTIONS;
+    environment = environments[input[ENVIRONMENT] % 8];
+    from = (State){input[STATE] % 2, limits[input[STATE] / 2 % 5], lengths[input[STATE] / 10 % 5]};
+    if (function != WRITER)
+        from = (State){0, 1, 0};
+    format = (Slice){input + HEAD, input[LENGTH] < size - HEAD ? input[LENGTH] : size - HEAD};
+    rest = (Slice){format.start + format.length, size - HEAD - format.length};
+    prepare(function, from, (int8_t)input[STATE], format, rest);
+    arguments = lua_gettop(lua);
+    state = function == WRITER ? lua_touserdata(lua, 2) : NULL;
+    for (long blocks = 0; blocks < TRIES && status == LUA_ERRMEM; blocks++) {
+        lua_settop(lua, arguments);
+        status = call(blocks, environment);
+        HOLD(status != LUA_ERRMEM || state == NULL || memcmp(state, &from, sizeof from) == 0);
+    }
+    if (status == LUA_ERRMEM) {
+        lua_settop(lua, arguments);
+        status = call(-1, environment);
+    }
+    check(function, status, arguments + 1, state, from);
+    lua_settop(lua, 0);
+    lua_gc(lua, LUA_GCCOLLECT);
+    HOLD(memory.used < memory_at_start + SLACK);
+    return 0;
+}
