@@ -16,13 +16,14 @@ use Rattle.definition.specs.Fields.{word, encode, number, decode, kept}
 use Rattle.definition.specs.Measuring.{measureOp, measureItem, measure}
 use Rattle.definition.specs.Writing.{writeField, writeOp, writeItem}
 use Rattle.definition.specs.Reading.{readField, readOp, readItem, read}
+use Rattle.definition.specs.Program.{decimalIn}
 use Rattle.definition.specs.Calls.{pack, packContinued, stringPack, unpack, stringUnpack}
 use Rattle.definition.specs.Claims.{inTurn}
 use Rattle.definition.specs.Premises.{Needed, Divided}
 
 pub needed : Needed
 unfolding little total signed laid listOf fieldOf valuesPast fieldsAfter options entryOf digits taken itemsPast value numeralOf opOf longer alignment padding
-    word encode number decode kept measureOp measureItem measure writeField writeOp writeItem readField readOp readItem read pack packContinued stringPack unpack stringUnpack inTurn
+    word encode number decode kept measureOp measureItem measure writeField writeOp writeItem readField readOp readItem read pack packContinued stringPack unpack stringUnpack inTurn decimalIn
     ofBits toBits ofInt ofFields odd round nanBits size span climb units trailingZeros
 needed = record {
   refused-writing = (refl, refl, refl);
@@ -41,6 +42,7 @@ needed = record {
   no-part = (refl, refl);
   not-returned = refl;
   room-for-record = refl;
+  digits-lost = refl;
 }
 
 pub divided : Divided

@@ -1,4 +1,4 @@
--- Demand 3, and what else is claimed of the calls of specs/Calls.antt, which the contracts of the code name. `Demand`, `Returned`, `Rooms`, `Numbered` and `Bounded` are the claims: statements without free variables. docs/DEMAND.md says where each is proved.
+-- Demand 3, and what else is claimed of the calls of specs/Calls.antt, which the contracts of the code name. `Demand`, `Returned`, `Rooms`, `Numbered`, `Bounded` and `Decimals` are the claims: statements without free variables. docs/DEMAND.md says where each is proved.
 use Prim.Native.Nat.{ℕ, _+_, _-_, _%_, _^_, _≤_, _<_}
 use mathlib.Core.Path.{_≡_}
 use mathlib.Core.Bool.{Bool, true, false, _||_, cond}
@@ -10,7 +10,7 @@ use lib.IntN.{ℤ, pos}
 use lib.ListN.{length, take, drop}
 use Rattle.definition.specs.Answers.{Checked, refused, accepted, _>>=_}
 use Rattle.definition.specs.Bytes.{IsByte}
-use Rattle.definition.specs.Items.{Item, items, texts}
+use Rattle.definition.specs.Items.{Item, items, texts, value}
 use Rattle.definition.specs.Ops.{opOf}
 use Rattle.definition.specs.Values.{Value, asInteger}
 use Rattle.definition.specs.Lists.{listOf, fieldsAfter}
@@ -18,6 +18,7 @@ use Rattle.definition.specs.States.{start}
 use Rattle.definition.specs.Fields.{kept}
 use Rattle.definition.specs.Writing.{Cell, pad, byte, Place, Output, nothing}
 use Rattle.definition.specs.Reading.{offset, positionOf}
+use Rattle.definition.specs.Program.{decimal}
 use Rattle.definition.specs.Calls.{Call, call, stringPacksize, listBound, pack, recordOf, packContinued, stringPack, stringUnpack}
 use Rattle.definition.specs.declared.State.{State}
 use Rattle.definition.specs.declared.Field.{Field}
@@ -229,3 +230,7 @@ pub record Numbered : Type 0 where
 abbrev pub Bounded : Type 0
 Bounded = (f d : List ℕ) (p : ℤ) (b : List ℕ) (u : Unpacked) → stringUnpack f d p b .answer ≡ accepted u
     → ((n : ℕ) × (listBound f (length d) ≡ accepted n) × (u .length ≤ n)) ⊎ (listBound f (length d) ≡ refused 9)
+
+-- "prints `size ` and the measure, or `refused ` and the number": the digits printed write the number, if it has at most twenty
+abbrev pub Decimals : Type 0
+Decimals = (n : ℕ) → n < 10 ^ 20 → value 0 (decimal n) ≡ n

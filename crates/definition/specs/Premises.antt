@@ -9,7 +9,9 @@ use Rattle.definition.specs.Answers.{refused, accepted}
 use Rattle.definition.specs.Bytes.{bytes}
 use Rattle.definition.specs.Values.{integer, float, text}
 use Rattle.definition.specs.Lists.{listOf}
+use Rattle.definition.specs.Items.{value}
 use Rattle.definition.specs.States.{state, start}
+use Rattle.definition.specs.Program.{decimal}
 use Rattle.definition.specs.Calls.{stringPacksize, packContinued, stringPack, stringUnpack}
 use Rattle.definition.specs.Claims.{packedBytes, keptList, Divides, Total, totalOf, inTurn}
 use Rattle.definition.specs.Profiles.{room}
@@ -56,6 +58,8 @@ pub record Needed : Type 0 where
   pub not-returned : packContinued (state false 3 0) [] [] [] .answer ≡ refused 21
   -- of `Rooms`, no refusal but 22: with a byte more, `short-record` is accepted
   pub room-for-record : stringPack (bytes "h") (one (pos 7)) (room 2) .answer ≡ accepted 2
+  -- of `Decimals`, at most twenty digits: of 10^20, twenty zeros are printed
+  pub digits-lost : value 0 (decimal (10 ^ 20)) ≡ 0
 
 -- ---- `<!4 b i` in three parts, the second empty: the third goes on from limit 4 and length 1, with the second value
 
