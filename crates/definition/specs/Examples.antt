@@ -25,7 +25,8 @@ use Rattle.definition.specs.Program.{firstLine, decimalIn, printed}
 use Rattle.definition.specs.Calls.{Call, call, listBound, pack, packContinued, stringPack, unpack, stringUnpack}
 use Rattle.definition.specs.Profiles.{packs, continues, sizes, bounds, reads, keeps, prints, data-number, data-values, data-continued, room, Row, pack-gives, pack-refused, size-gives, size-refused, read-gives, read-refused, Hold, int, neg, str}
 use Rattle.definition.specs.Entries.{written}
-use Rattle.definition.specs.declared.Field.the-variants.{ZeroEnded, Counted}
+use Rattle.definition.specs.declared.Field.the-variants.{Number, ZeroEnded, Counted}
+use Rattle.definition.specs.declared.Kind.the-variants.{Unsigned, LuaInteger, LuaUnsigned, Size}
 use Rattle.definition.specs.declared.Unpacked.{Unpacked}
 
 -- ---- formats
@@ -299,7 +300,7 @@ checks =
 -- continued writing: the state (21), 22 of this call's bytes, the counts, and 9 after all other checks but for c
 abbrev continuing : List Row
 continuing =
-    (continues (state false 1 100) (bytes "b") (listOf (int 1 ∷ [])) 1, accepted (data-continued (1 ∷ []) 1 1 (state false 1 101)))
+    (continues (state false 1 100) (bytes "b") (listOf (int 1 ∷ [])) 3, accepted (data-continued (1 ∷ []) 1 1 (state false 1 101)))
     ∷ (continues start (bytes "< !4 x Xi4") [] 4, accepted (data-continued (0 ∷ 0 ∷ 0 ∷ 0 ∷ []) 0 4 (state false 4 4)))
     ∷ (continues (state false 4 1) (bytes "ib") (listOf (int 7 ∷ int 8 ∷ other ∷ [])) 8, accepted (data-continued (0 ∷ 0 ∷ 0 ∷ 7 ∷ 0 ∷ 0 ∷ 0 ∷ 8 ∷ []) 2 2 (state false 4 9)))
     ∷ (continues (state false 0 0) [] [] 0, refused 21)
@@ -490,6 +491,10 @@ numbers-read =
     ∷ read-gives "<n" (1 ∷ 0 ∷ 0 ∷ 0 ∷ 0 ∷ 0 ∷ 0xf0 ∷ 0xff ∷ []) (pos 1) (float 0xfff0_0000_0000_0001 ∷ []) 9
     ∷ []
 
+-- "Unsigned results are the same 64 bits as an integer."
+abbrev read-signed : List (Checked (Value × ℕ) × Checked (Value × ℕ))
+read-signed = (decode false (Number Unsigned 8) (replicate 8 0xff), accepted (neg 0, 8)) ∷ []
+
 -- "z gives 19 and never 17; s reads its length (17, 18), then its text (17, 20)"
 abbrev texts-read : List Row
 texts-read =
@@ -540,6 +545,14 @@ kept-values =
     ∷ (keeps (bytes ">xs1!4Xiz c0") (listOf (str "A" ∷ str "BC" ∷ str "" ∷ other ∷ [])), accepted (data-values (str "A" ∷ str "BC" ∷ str "" ∷ []) 0))
     ∷ []
 
+-- "each as a signed 64-bit integer": -0.5 under j J T
+abbrev kept-signed : List (Value × Value)
+kept-signed =
+    (kept (Number LuaInteger 8) (float 0xbfe0_0000_0000_0000), neg 4620693217682128895)
+    ∷ (kept (Number LuaUnsigned 8) (float 0xbfe0_0000_0000_0000), neg 4620693217682128895)
+    ∷ (kept (Number Size 8) (float 0xbfe0_0000_0000_0000), neg 0)
+    ∷ []
+
 -- ---- the program: up to a line feed or the end; over 4,096 bytes: 22
 abbrev inputs : List Row
 inputs =
@@ -580,8 +593,10 @@ pub record Examples : Type 0 where
   pub of-starts : Hold starts
   pub of-data-ends : Hold data-ends
   pub of-numbers-read : Hold numbers-read
+  pub of-read-signed : Same read-signed
   pub of-texts-read : Hold texts-read
   pub of-kept-values : Hold kept-values
+  pub of-kept-signed : Same kept-signed
   pub of-inputs : Hold inputs
   pub of-long-texts : Same long-texts
 
@@ -609,8 +624,10 @@ examples =
       of-starts = refl;
       of-data-ends = refl;
       of-numbers-read = refl;
+      of-read-signed = refl;
       of-texts-read = refl;
       of-kept-values = refl;
+      of-kept-signed = refl;
       of-inputs = refl;
       of-long-texts = refl;
     }

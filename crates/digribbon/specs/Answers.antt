@@ -1,11 +1,9 @@
 -- What a caller sees of a call under its C name: the number that it returns, the words of its answer, and its result buffer.
-use Prim.Native.Nat.{ℕ, _-_}
+use Prim.Native.Nat.{ℕ}
 use mathlib.Core.Bool.{not, cond}
 use mathlib.Core.List.{List, [], _∷_}
 use lib.Dec.{eqb}
-use lib.ListN.{length}
 use Rattle.definition.specs.Answers.{Checked, refused, accepted}
-use Rattle.definition.specs.Lists.{fieldsAfter}
 use Rattle.definition.specs.Calls.{Call}
 use Rattle.definition.specs.declared.State.{State}
 use Rattle.definition.specs.declared.Continued.{Continued}
@@ -36,7 +34,3 @@ unpackedWords u = u .length ∷ u .next .0 ∷ []
 -- a state: the order 0 is little, and every other number is big
 abbrev pub stateOf : ℕ → ℕ → ℕ → State
 stateOf order limit length = record { big = not (eqb order 0); limit = limit; length = length }
-
--- where the list after its first k fields starts
-abbrev pub offsetAfter : ℕ → List ℕ → ℕ
-offsetAfter k l = length l - length (fieldsAfter k l)

@@ -7,14 +7,15 @@ use read::Unpacking;
 use read::string_unpack;
 use values::fields_after;
 use write::Packed;
-use write::pass::Total;
+use write::Total;
 use write::pack_continued;
 use write::string_pack;
 ghost use mathlib.Core.Path.{_≡_};
 ghost use Rattle.definition.specs.Answers.{accepted};
+ghost use Rattle.definition.specs.Lists.{offsetAfter};
 ghost use Rattle.definition.specs.Calls.{stringPacksize, listBound, stringPack, packContinued, stringUnpack};
 ghost use Rattle.measure.specs.Measured.{measuredOf};
-ghost use Rattle.digribbon.specs.Answers.{told, toldWith, word, continuedWords, unpackedWords, stateOf, offsetAfter};
+ghost use Rattle.digribbon.specs.Answers.{told, toldWith, word, continuedWords, unpackedWords, stateOf};
 
 // A size in the answer, or a refusal's number.
 fn tell_size(m: Measured, answer: &mut [u64; 1]) -> u64

@@ -14,7 +14,7 @@ use notation::room;
 use read::Unpacking;
 use read::string_unpack;
 use write::Packed;
-use write::pass::Total;
+use write::Total;
 use write::pack_continued;
 use write::string_pack;
 ghost use Prim.Native.Nat.{_≤_};

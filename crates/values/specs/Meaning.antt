@@ -10,7 +10,7 @@ use lib.Ieee.{binary64, toBits, isNan, nanBits}
 use Rattle.definition.specs.Answers.{Checked, refused, accepted, _>>=_}
 use Rattle.definition.specs.Values as definition
 use Rattle.definition.specs.Values.{integer, float, text, other}
-use Rattle.definition.specs.Lists.{bigTotal, fieldOf, fieldsAfter}
+use Rattle.definition.specs.Lists.{bigTotal, fieldOf}
 use Rattle.values.specs.declared.Content.{Content}
 use Rattle.values.specs.declared.Content.the-variants as Content
 use Rattle.values.specs.declared.Value.{Value}
@@ -130,8 +130,3 @@ pub record FieldRead (l : List ℕ) (at : ℕ) (r : Field) : Type 0 where
 abbrev pub isAccepted : {A : Type 0} → Checked A → Bool
 isAccepted (refused k) = false
 isAccepted (accepted a) = true
-
--- the list after its first k fields starts at r
-pub record After (l : List ℕ) (k r : ℕ) : Type 0 where
-  pub rest : drop r l ≡ fieldsAfter k l
-  pub within : r ≤ length l

@@ -14,9 +14,9 @@ ghost use Prim.Native.Nat.{_+_, _≤_, _<_};
 ghost use lib.ListN.{length, take, drop};
 ghost use lib.Seq.{paste};
 ghost use Rattle.definition.specs.Values as definition;
-ghost use Rattle.definition.specs.Lists.{big, values, listOf};
+ghost use Rattle.definition.specs.Lists.{big, values, listOf, offsetAfter};
 ghost use Rattle.values.specs.Loading.{Loaded};
-ghost use Rattle.values.specs.Meaning.{FloatRead, LengthRead, suits, Whole, ContentRead, FieldRead, isAccepted, After};
+ghost use Rattle.values.specs.Meaning.{FloatRead, LengthRead, suits, Whole, ContentRead, FieldRead, isAccepted};
 
 // A value of a list.
 pub enum Value {
@@ -190,7 +190,7 @@ pub fn is_list(list: &[u8]) -> bool
 
 // Where the list after its first k fields starts: at its end where there are fewer.
 pub fn fields_after(list: &[u8], k: u64) -> usize
-    ensures { λ r. ⌜ After (now (list .entry)) k r ⌝ }
+    ensures { λ r. ⌜ r ≡ offsetAfter k (now (list .entry)) ⌝ }
 {
     let mut at = 0;
     let mut left = k;

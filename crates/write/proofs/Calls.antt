@@ -24,8 +24,8 @@ use Rattle.values.specs.Meaning.{isAccepted}
 use Rattle.values.proofs.Lists.{refused-list}
 use Rattle.write.specs.Answers.{totalIs, continuedIs, packedIs}
 use Rattle.write.specs.Walks.{valuesOf, summed, FitsAt, putAt}
-use Rattle.write.specs.declared.pass.Total.{Total}
-use Rattle.write.specs.declared.pass.Total.the-variants as Total
+use Rattle.write.specs.declared.Total.{Total}
+use Rattle.write.specs.declared.Total.the-variants as Total
 use Rattle.write.specs.declared.Packed.{Packed}
 use Rattle.write.specs.declared.Packed.the-variants as Packed
 use Rattle.write.proofs.Stepping.{list-known}

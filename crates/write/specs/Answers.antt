@@ -6,8 +6,8 @@ use Rattle.definition.specs.Calls.{Call, call}
 use Rattle.definition.specs.declared.Continued.{Continued}
 use Rattle.write.specs.declared.Packed.{Packed}
 use Rattle.write.specs.declared.Packed.the-variants as Packed
-use Rattle.write.specs.declared.pass.Total.{Total}
-use Rattle.write.specs.declared.pass.Total.the-variants as Total
+use Rattle.write.specs.declared.Total.{Total}
+use Rattle.write.specs.declared.Total.the-variants as Total
 
 -- the totals of a pass
 abbrev pub totalIs : Total → Checked Continued

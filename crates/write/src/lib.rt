@@ -1,16 +1,22 @@
 // Writing: the values of a list, by a format, into a lent buffer.
 mod emit;
-pub mod pass;
+mod pass;
 
-use crate::pass::Total;
 use crate::pass::pass;
 use align::is_sound;
+use definition::Continued;
 use definition::State;
 use format::options::OPTIONS;
 use values::is_list;
 ghost use mathlib.Core.Path.{_≡_};
 ghost use Rattle.definition.specs.Calls.{packContinued, stringPack};
 ghost use Rattle.write.specs.Answers.{continuedIs, packedIs};
+
+// What continued writing answers, or the number of a refusal.
+pub enum Total {
+    Refused(u8),
+    Of(Continued),
+}
 
 // Continued writing: the record stands at the buffer's front, and no other byte has changed; or a refusal, and none has.
 pub fn pack_continued(state: State, format: &[u8], list: &[u8], out: &mut [u8]) -> Total

@@ -1,4 +1,5 @@
 // A pass over a format: every check, the totals, and where it is asked for, the record.
+use crate::Total;
 use crate::emit::emit_number;
 use crate::emit::emit_text;
 use crate::emit::emit_zeros;
@@ -38,12 +39,6 @@ pub enum Step {
     Refused(u8),
     Skip,
     To(Progress),
-}
-
-// What continued writing answers, or the number of a refusal.
-pub enum Total {
-    Refused(u8),
-    Of(Continued),
 }
 
 // The state n bytes on.

@@ -1,8 +1,9 @@
 -- `fields_after` meets its contract. The loop's invariant: the fields left, of the list from `at`, leave what all of them leave of the whole.
-use Prim.Native.Nat.{_+_, _≤_, _<_, _-_}
+use Prim.Native.Nat.{ℕ, _+_, _≤_, _<_, _-_}
 use mathlib.Core.Path.{_≡_, refl, sym, ap, _∙_}
 use native.Mathlib.Omega.{arith}
-use lib.ListN.{length, drop}
+use mathlib.Core.List.{List}
+use lib.ListN.{length, drop, length-drop}
 use lib.Seq.{drop-length}
 use denote.Ref.{now}
 use borrow.Author.Needs.{needs}
@@ -11,6 +12,10 @@ use Rattle.values.specs.Meaning.{sizeAt, Complete}
 use Rattle.values.proofs.Fields.{after-next, after-short}
 use Rattle.values.proofs.fields_after.Statement.{statement}
 use Rattle.values.proofs.fields_after.Tie as tie
+
+-- the rest r of a list l starts at `at`
+starts : (at : ℕ) (l r : List ℕ) → at ≤ length l → drop at l ≡ r → at ≡ length l - length r
+starts at l r w e = omega (arith, ap length e, length-drop at l)
 
 abbrev Inv-loop : tie.InvT-loop
 Inv-loop list k at₀ left₀ at left = (at ≤ length list) × (fieldsAfter left (drop at list) ≡ fieldsAfter k list)
@@ -35,7 +40,7 @@ returns c =
     let l = now (c .before .before .before .before .before .before .args .list) in
     let i = c .before .before .before .before .loop in
     let short : length l < i .at + 3 + sizeAt l (i .at) = rw (c .enum-told .given .1) at (c .before .before .length-at .ensures) in
-    record { rest = drop-length l ∙ sym (sym (i .inv .1) ∙ after-short l (i .at) (i .left) (c .before .before .before .loop-test .taken) (omega arith)); within = omega arith }
+    starts (length l) l _ (omega arith) (drop-length l ∙ sym (sym (i .inv .1) ∙ after-short l (i .at) (i .left) (c .before .before .before .loop-test .taken) (omega arith)))
 
 complete : (c : tie.After-known-told Inv-loop μ-loop) → Complete (now (c .before .before .before .before .before .before .before .args .list)) (c .before .before .before .before .before .loop .at) (c .before .n .given .0 .0)
 complete c = rw (c .before .n .given .1) at (c .before .before .before .length-at .ensures)
@@ -65,7 +70,7 @@ returns-2 c =
     let l = now (c .before .before .before .args .list) in
     let i = c .before .loop in
     let none-left : i .left ≡ 0 = omega arith in
-    record { rest = ap (λ k. fieldsAfter k (drop (i .at) l)) (sym none-left) ∙ i .inv .1; within = i .inv .0 }
+    starts (i .at) l _ (i .inv .0) (ap (λ k. fieldsAfter k (drop (i .at) l)) (sym none-left) ∙ i .inv .1)
 
 pub fields-after-spec : {M : Type 1} → statement M
 fields-after-spec =
