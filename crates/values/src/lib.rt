@@ -16,7 +16,7 @@ ghost use lib.Seq.{paste};
 ghost use Rattle.definition.specs.Values as definition;
 ghost use Rattle.definition.specs.Lists.{big, values, listOf};
 ghost use Rattle.values.specs.Loading.{Loaded};
-ghost use Rattle.values.specs.Meaning.{FloatRead, LengthRead, suits, Whole, ContentRead, FieldRead, isAccepted, After};
+ghost use Rattle.values.specs.Meaning.{FloatRead, LengthRead, suits, ContentRead, FieldRead, isAccepted, After};
 
 // A value of a list.
 pub enum Value {

@@ -5,22 +5,10 @@ use borrow.Author.Needs.{needs}
 use Rattle.values.proofs.put_eight.Statement.{statement}
 use Rattle.values.proofs.put_eight.Tie as tie
 
-add-put-number : tie.Need-add-put-number
-add-put-number c = search needs
-
-put-number-requires : tie.Need-put-number-requires
-put-number-requires c κs = search needs
-
-put-head-requires : tie.Need-put-head-requires
-put-head-requires c κs = search needs
-
-same-length : tie.Need-same-length
-same-length c = search needs
-
 returns : tie.Need-returns
 returns c =
     let s = c .before .before .before .before .before .before .before .before .before in
     eight-stored (now (s .args .out)) _ (s .args .at) _ (s .args .tag) (s .args .word) (s .pre) (c .before .before .before .before .before .before .put-number .ensures) (c .before .before .put-head .ensures)
 
 pub put-eight-spec : {M : Type 1} → statement M
-put-eight-spec = tie.close (tie.spec add-put-number put-number-requires put-head-requires same-length returns)
+put-eight-spec = tie.close (tie.spec (λ c. search needs) (λ c κs. search needs) (λ c κs. search needs) (λ c. search needs) returns)

@@ -7,14 +7,8 @@ use borrow.Author.Needs.{needs}
 use Rattle.values.proofs.put_float.Statement.{statement}
 use Rattle.values.proofs.put_float.Tie as tie
 
-put-eight-requires : tie.Need-put-eight-requires
-put-eight-requires c κs = search needs
-
-same-length : tie.Need-same-length
-same-length c = search needs
-
 returns : tie.Need-returns
 returns c = let s = c .before .before .before .before .before in c .before .before .put-eight .ensures ∙ ap (λ f. paste (now (s .args .out)) (s .args .at) f 11) (float-field (s .args .bits))
 
 pub put-float-spec : {M : Type 1} → statement M
-put-float-spec = tie.close (tie.spec put-eight-requires same-length returns)
+put-float-spec = tie.close (tie.spec (λ c κs. search needs) (λ c. search needs) returns)

@@ -9,12 +9,6 @@ use borrow.Author.Needs.{needs}
 use Rattle.values.proofs.put_head.Statement.{statement}
 use Rattle.values.proofs.put_head.Tie as tie
 
-slice-write-out : tie.Need-slice-write-out
-slice-write-out c = search needs
-
-add-put-number : tie.Need-add-put-number
-add-put-number c = search needs
-
 put-number-requires : tie.Need-put-number-requires
 put-number-requires c κs = (lit≤ tt, simp length-set (omega arith))
 
@@ -25,4 +19,4 @@ returns : tie.Need-returns
 returns c = let s = c .before .before .before .before .before in head-stored (now (s .args .out)) _ (s .args .at) (s .args .tag) (s .args .n) (s .pre) (c .before .before .put-number .ensures)
 
 pub put-head-spec : {M : Type 1} → statement M
-put-head-spec = tie.close (tie.spec slice-write-out add-put-number put-number-requires same-length returns)
+put-head-spec = tie.close (tie.spec (λ c. search needs) (λ c. search needs) put-number-requires same-length returns)

@@ -11,15 +11,6 @@ use borrow.Author.Needs.{needs}
 use Rattle.values.proofs.put_integer.Statement.{statement}
 use Rattle.values.proofs.put_integer.Tie as tie
 
-to-word-requires : tie.Need-to-word-requires
-to-word-requires c κs = search needs
-
-put-eight-requires : tie.Need-put-eight-requires
-put-eight-requires c κs = search needs
-
-same-length : tie.Need-same-length
-same-length c = search needs
-
 returns : tie.Need-returns
 returns c =
     let s = c .before .before .before .before .before .before in
@@ -28,4 +19,4 @@ returns c =
     c .before .before .put-eight .ensures ∙ ap (λ w. paste (now (s .args .out)) (s .args .at) (1 ∷ big 2 8 ++ big 8 w) 11) word ∙ ap (λ f. paste (now (s .args .out)) (s .args .at) f 11) (integer-field z)
 
 pub put-integer-spec : {M : Type 1} → statement M
-put-integer-spec = tie.close (tie.spec to-word-requires put-eight-requires same-length returns)
+put-integer-spec = tie.close (tie.spec (λ c κs. search needs) (λ c κs. search needs) (λ c. search needs) returns)

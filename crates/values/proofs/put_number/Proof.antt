@@ -5,14 +5,8 @@ use borrow.Author.Needs.{needs}
 use Rattle.values.proofs.put_number.Statement.{statement}
 use Rattle.values.proofs.put_number.Tie as tie
 
-put-requires : tie.Need-put-requires
-put-requires c κs = search needs
-
-same-length : tie.Need-same-length
-same-length c = search needs
-
 returns : tie.Need-returns
 returns c = let s = c .before .before .before .before .before in number-stored (now (s .args .out)) _ (s .args .at) (s .args .n) (s .args .v) (s .pre .0) (c .before .before .put .ensures)
 
 pub put-number-spec : {M : Type 1} → statement M
-put-number-spec = tie.close (tie.spec put-requires same-length returns)
+put-number-spec = tie.close (tie.spec (λ c κs. search needs) (λ c. search needs) returns)

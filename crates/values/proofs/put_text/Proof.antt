@@ -7,18 +7,6 @@ use borrow.Author.Needs.{needs}
 use Rattle.values.proofs.put_text.Statement.{statement}
 use Rattle.values.proofs.put_text.Tie as tie
 
-put-head-requires : tie.Need-put-head-requires
-put-head-requires c κs = search needs
-
-add-put-copy : tie.Need-add-put-copy
-add-put-copy c = search needs
-
-put-copy-requires : tie.Need-put-copy-requires
-put-copy-requires c κs = search needs
-
-same-length : tie.Need-same-length
-same-length c = search needs
-
 returns : tie.Need-returns
 returns c =
     let s = c .before .before .before .before .before .before .before .before .before .before in
@@ -27,4 +15,4 @@ returns c =
     text-stored (now (s .args .out)) _ (s .args .at) _ (take n (drop (s .args .start) source)) n (length-part n (s .args .start) source (s .pre .1)) (s .pre .0) (c .before .before .before .before .before .before .put-head .ensures) (c .before .before .put-copy .ensures)
 
 pub put-text-spec : {M : Type 1} → statement M
-put-text-spec = tie.close (tie.spec put-head-requires add-put-copy put-copy-requires same-length returns)
+put-text-spec = tie.close (tie.spec (λ c κs. search needs) (λ c. search needs) (λ c κs. search needs) (λ c. search needs) returns)
