@@ -24,9 +24,6 @@ unit-pos k h = rw (unit-is k h) (pow-pos k)
 by-unit : (n k r : ℕ) → k < 63 → closest n (unit k) ≡ r → r ≡ closest n (2 ^ k)
 by-unit n k r h e = sym e ∙ ap (closest n) (unit-is k h)
 
-shl-unit : tie.Need-shl-unit
-shl-unit c = search needs
-
 div-whole : tie.Need-div-whole
 div-whole c = unit-pos (c .args .k) (c .pre .1)
 
@@ -54,4 +51,4 @@ returns-3 c = let s = c .before .before in by-unit (s .args .n) (s .args .k) _ (
 pub nearest-spec : {M : Type 1} → statement M
 nearest-spec =
     tie.close
-    (tie.spec shl-unit div-whole rem-twice mul-twice returns add-result returns-2 add-result-2 returns-3)
+    (tie.spec (λ c. search needs) div-whole rem-twice mul-twice returns add-result returns-2 add-result-2 returns-3)
