@@ -3,8 +3,8 @@
 use Prim.Native.Nat.{ℕ}
 use mathlib.Core.Path.{sym}
 use lib.ListN.{length-replicate}
-use Rattle.notation.proofs.room.Statement.{statement}
-use Rattle.notation.proofs.room.Tie as tie
+use Rattle.notation.proofs.parts.room.Statement.{statement}
+use Rattle.notation.proofs.parts.room.Tie as tie
 
 returns : tie.Need-returns
 returns c = sym (length-replicate {A = ℕ} 70000 (c .args .fill))
