@@ -1,9 +1,9 @@
 -- `put_eight` meets its contract: the content, and the head right before it.
 use denote.Ref.{now}
-use Rattle.values.proofs.Storing.{eight-stored}
+use Rattle.fields.proofs.Storing.{eight-stored}
 use borrow.Author.Needs.{needs}
-use Rattle.values.proofs.put_eight.Statement.{statement}
-use Rattle.values.proofs.put_eight.Tie as tie
+use Rattle.fields.proofs.put_eight.Statement.{statement}
+use Rattle.fields.proofs.put_eight.Tie as tie
 
 returns : tie.Need-returns
 returns c =

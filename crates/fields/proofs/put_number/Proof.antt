@@ -1,9 +1,9 @@
 -- `put_number` meets its contract: the coder's bytes, in this order and up to eight, are those of a number.
 use denote.Ref.{now}
-use Rattle.values.proofs.Storing.{number-stored}
+use Rattle.fields.proofs.Storing.{number-stored}
 use borrow.Author.Needs.{needs}
-use Rattle.values.proofs.put_number.Statement.{statement}
-use Rattle.values.proofs.put_number.Tie as tie
+use Rattle.fields.proofs.put_number.Statement.{statement}
+use Rattle.fields.proofs.put_number.Tie as tie
 
 returns : tie.Need-returns
 returns c = let s = c .before .before .before .before .before in number-stored (now (s .args .out)) _ (s .args .at) (s .args .n) (s .args .v) (s .pre .0) (c .before .before .put .ensures)

@@ -4,10 +4,10 @@ use native.Mathlib.Omega.{arith}
 use lib.Dec.{lit≤}
 use lib.ListN.{length-set}
 use denote.Ref.{now}
-use Rattle.values.proofs.Storing.{head-stored}
+use Rattle.fields.proofs.Storing.{head-stored}
 use borrow.Author.Needs.{needs}
-use Rattle.values.proofs.put_head.Statement.{statement}
-use Rattle.values.proofs.put_head.Tie as tie
+use Rattle.fields.proofs.put_head.Statement.{statement}
+use Rattle.fields.proofs.put_head.Tie as tie
 
 put-number-requires : tie.Need-put-number-requires
 put-number-requires c κs = (lit≤ tt, simp length-set (omega arith))

@@ -6,10 +6,10 @@ use mir.Facts.{toZ-ofZ}
 use denote.Ref.{now}
 use Rattle.definition.specs.Bytes.{bits}
 use Rattle.definition.specs.Lists.{big}
-use Rattle.values.proofs.Storing.{integer-field}
+use Rattle.fields.proofs.Storing.{integer-field}
 use borrow.Author.Needs.{needs}
-use Rattle.values.proofs.put_integer.Statement.{statement}
-use Rattle.values.proofs.put_integer.Tie as tie
+use Rattle.fields.proofs.put_integer.Statement.{statement}
+use Rattle.fields.proofs.put_integer.Tie as tie
 
 returns : tie.Need-returns
 returns c =

@@ -2,10 +2,10 @@
 use lib.ListN.{take, drop}
 use denote.Ref.{now}
 use Rattle.definition.proofs.Bytes.{length-part}
-use Rattle.values.proofs.Storing.{text-stored}
+use Rattle.fields.proofs.Storing.{text-stored}
 use borrow.Author.Needs.{needs}
-use Rattle.values.proofs.put_text.Statement.{statement}
-use Rattle.values.proofs.put_text.Tie as tie
+use Rattle.fields.proofs.put_text.Statement.{statement}
+use Rattle.fields.proofs.put_text.Tie as tie
 
 returns : tie.Need-returns
 returns c =

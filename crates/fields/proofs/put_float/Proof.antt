@@ -2,10 +2,10 @@
 use mathlib.Core.Path.{ap, _∙_}
 use lib.Seq.{paste}
 use denote.Ref.{now}
-use Rattle.values.proofs.Storing.{float-field}
+use Rattle.fields.proofs.Storing.{float-field}
 use borrow.Author.Needs.{needs}
-use Rattle.values.proofs.put_float.Statement.{statement}
-use Rattle.values.proofs.put_float.Tie as tie
+use Rattle.fields.proofs.put_float.Statement.{statement}
+use Rattle.fields.proofs.put_float.Tie as tie
 
 returns : tie.Need-returns
 returns c = let s = c .before .before .before .before .before in c .before .before .put-eight .ensures ∙ ap (λ f. paste (now (s .args .out)) (s .args .at) f 11) (float-field (s .args .bits))
