@@ -58,7 +58,7 @@ BOXES = [
     ("proved", 696, 60, 110, 58, "line", ["the line printed"]),
     ("proved", 846, 60, 114, 58, "packsize", ["the program"]),
     ("leaf", 186, 452, 118, 104, "align", ["the state, padding;", "for format,", "measure, plan,", "fetch, write, read"]),
-    ("leaf", 318, 452, 118, 104, "values", ["fields of a value", "list; for numbers,", "plan, write, read,", "digribbon"]),
+    ("leaf", 318, 452, 118, 104, "values, fields", ["the value list, read", "and written; for", "numbers, plan, write,", "digribbon, read"]),
     ("leaf", 450, 452, 118, 104, "numbers", ["a value as integer", "or as number;", "for plan"]),
     ("leaf", 582, 452, 118, 104, "single", ["f64 to f32, and", "back; for plan,", "numbers, fetch"]),
     ("leaf", 714, 452, 118, 104, "coder", ["integers as bytes;", "for values, plan,", "numbers, position,", "fetch, write"]),

@@ -3,39 +3,27 @@ use Prim.Native.Nat.{ℕ, zero, suc, _+_, _/_, _%_, _^_, _≤_, _<_}
 use mathlib.Core.Path.{_≡_, refl, sym, ap, _∙_}
 use mathlib.Core.Bool.{Bool, true, false, cond}
 use mathlib.Core.List.{List, [], _∷_, _++_, append-assoc}
-use native.Mathlib.Nat.{add-assoc, zero-add, pow-suc, le-refl}
+use native.Mathlib.Nat.{zero-add, pow-suc, le-refl}
 use native.Mathlib.Omega.{arith}
 use lib.Dec.{ltb}
-use lib.ListN.{length, take, drop, set, length-append}
-use lib.Seq.{paste, paste-zero, paste-suc, take-paste, drop-paste, take-length, take-append-seam, getD-append-seam, drop-drop}
+use lib.ListN.{length, drop, set, length-append}
+use lib.Seq.{paste, length-paste, take-length}
 use borrow.Author.Tests.{lt-ltb, le-ltb}
 use Rattle.definition.specs.Program.{decimalIn, decimal}
+use Rattle.coder.proofs.Pasting.{set-paste, paste-on}
 
 -- ---- a text after a text
 abbrev pub put : List ℕ → ℕ → List ℕ → List ℕ
 put o at w = paste o at w (length w)
 
-pub put-put : (o : List ℕ) (at : ℕ) (v w : List ℕ) → at ≤ length o → put (put o at v) (at + length v) w ≡ put o at (v ++ w)
-put-put o at v w h =
-    let t : take (at + length v) (put o at v) ≡ take at o ++ v = take-paste o at v (length v) h (le-refl (length v)) ∙ ap (λ (l : List ℕ). take at o ++ l) (take-length v) in
-    let d : drop (at + length v + length w) (put o at v) ≡ drop (at + length v + length w) o = sym (drop-drop (length w) (at + length v) (put o at v)) ∙ ap (drop (length w)) (drop-paste o at v (length v) h (le-refl (length v))) ∙ drop-drop (length w) (at + length v) o in
-    rw (t, d, take-length w, take-length (v ++ w), length-append v w, append-assoc (take at o) v w, add-assoc at (length v) (length w))
+pub put-put : (o : List ℕ) (at : ℕ) (v w : List ℕ) → at + (length v + length w) ≤ length o → put (put o at v) (at + length v) w ≡ put o at (v ++ w)
+put-put o at v w h = paste-on o v w at (length v) (length w) refl refl h ∙ ap (paste o at (v ++ w)) (sym (length-append v w))
 
 -- a byte after a text
 pub put-byte : (o : List ℕ) (at : ℕ) (w : List ℕ) (x : ℕ) → at + length w < length o → set (put o at w) (at + length w) x ≡ put o at (w ++ (x ∷ []))
 put-byte o at w x h =
-    let e : put o at w ≡ paste o at (w ++ (x ∷ [])) (length w) = rw (take-length w, take-append-seam w (x ∷ [])) in
-    let k : length (w ++ (x ∷ [])) ≡ suc (length w) = length-append w (x ∷ []) ∙ omega arith in
-    let i : length w < length (w ++ (x ∷ [])) = rw k (le-refl (suc (length w))) in
-    ap (λ (l : List ℕ). set l (at + length w) x) e
-    ∙ ap (set (paste o at (w ++ (x ∷ [])) (length w)) (at + length w)) (sym (getD-append-seam w x [] 0))
-    ∙ paste-suc o at (w ++ (x ∷ [])) (length w) 0 h i
-    ∙ ap (paste o at (w ++ (x ∷ []))) (sym k)
-
-pub put-one : (o : List ℕ) (at x : ℕ) → at < length o → set o at x ≡ put o at (x ∷ [])
-put-one o at x h =
-    let z : at + 0 ≡ at = omega arith in
-    ap (λ (l : List ℕ). set l at x) (paste-zero o at []) ∙ ap (λ (k : ℕ). set (put o at []) k x) (sym z) ∙ put-byte o at [] x (omega arith)
+    let k = length-paste o at w (length w) (omega arith) (le-refl (length w)) in
+    set-paste (put o at w) (at + length w) x (omega arith) ∙ put-put o at w (x ∷ []) (omega arith)
 
 pub put-front : (o w : List ℕ) → put o 0 w ≡ w ++ drop (length w) o
 put-front o w = rw (zero-add, take-length w)
@@ -83,7 +71,7 @@ length-20 n = length-decimal 20 n
 
 -- ---- a number put into a buffer
 pub one-digit : (o : List ℕ) (at n x : ℕ) → n < 10 → x ≡ 48 + n → at < length o → (at + 1 ≡ at + length (decimal n)) × (set o at x ≡ put o at (decimal n))
-one-digit o at n x h e i = (ap (λ (l : List ℕ). at + length l) (sym (decimal-small n h)), ap (set o at) e ∙ put-one o at (48 + n) i ∙ ap (put o at) (sym (decimal-small n h)))
+one-digit o at n x h e i = (ap (λ (l : List ℕ). at + length l) (sym (decimal-small n h)), ap (set o at) e ∙ set-paste o at (48 + n) i ∙ ap (put o at) (sym (decimal-small n h)))
 
 -- after the digits of n / 10, which end at the place p and leave the buffer as b, the last digit
 module _ (o : List ℕ) (at n p : ℕ) (b : List ℕ) (f : n < 2 ^ 64) (r : at + 20 ≤ length o) (e : p ≡ at + length (decimal (n / 10))) where
@@ -103,11 +91,11 @@ module _ (o : List ℕ) (at n p : ℕ) (b : List ℕ) (f : n < 2 ^ 64) (r : at +
 pub line-length : (l d e : List ℕ) (i j k : ℕ) → i ≡ 0 + length l → j ≡ i + length d → k ≡ j + length e → k ≡ length (l ++ (d ++ e))
 line-length l d e i j k p q r = omega (arith, length-append l (d ++ e), length-append d e)
 
-pub line-held : (o l d e : List ℕ) (i j : ℕ) → i ≡ 0 + length l → j ≡ i + length d → length l + length d ≤ length o
+pub line-held : (o l d e : List ℕ) (i j : ℕ) → i ≡ 0 + length l → j ≡ i + length d → length l + (length d + length e) ≤ length o
     → (x y z : List ℕ) → x ≡ put o 0 l → y ≡ put x i d → z ≡ put y j e → z ≡ (l ++ (d ++ e)) ++ drop (length (l ++ (d ++ e))) o
 line-held o l d e i j p q h x y z ex ey ez =
     let i' : i ≡ length l = p ∙ zero-add (length l) in
     let a : y ≡ put o 0 (l ++ d) = ey ∙ ap (λ (v : List ℕ). put v i d) ex ∙ ap (λ (k : ℕ). put (put o 0 l) k d) p ∙ put-put o 0 l d (omega arith) in
     let j' : j ≡ 0 + length (l ++ d) = omega (arith, length-append l d) in
-    ez ∙ ap (λ (v : List ℕ). put v j e) a ∙ ap (λ (k : ℕ). put (put o 0 (l ++ d)) k e) j' ∙ put-put o 0 (l ++ d) e (omega arith)
+    ez ∙ ap (λ (v : List ℕ). put v j e) a ∙ ap (λ (k : ℕ). put (put o 0 (l ++ d)) k e) j' ∙ put-put o 0 (l ++ d) e (omega (arith, length-append l d))
     ∙ ap (put o 0) (append-assoc l d e) ∙ put-front o (l ++ (d ++ e))

@@ -1,4 +1,5 @@
 // The program's answer to an input, as a line.
+use coder::writing::put_copy;
 use measure::Measured;
 use measure::string_packsize;
 ghost use mathlib.Core.Path.{_≡_};
@@ -55,12 +56,8 @@ fn put(out: &mut [u8], at: usize, text: &[u8]) -> usize
     ensures after { λ r. ⌜ r ≡ at + length (now (text .entry)) ⌝ }
     ensures holds { λ _. ⌜ now (out .exit) ≡ paste (now (out .entry)) at (now (text .entry)) (length (now (text .entry))) ⌝ }
 {
-    let mut i = 0;
-    while i < text.len() {
-        out[at + i] = text[i];
-        i += 1;
-    }
-    at + i
+    put_copy(out, at, text, 0, text.len());
+    at + text.len()
 }
 
 // The byte of a digit.

@@ -1,5 +1,14 @@
-// Writes bytes and numbers to standard output.
-ghost use Prim.Native.Nat.{_<_};
+// Writes bytes, numbers and value lists to standard output.
+use crate::parts::part;
+use crate::reader::peek;
+ghost use Prim.Native.Nat.{_<_, _≤_};
+ghost use lib.ListN.{length};
+
+// A number behind its name.
+pub fn print_named(name: &[u8], n: u64) {
+    io::write_all(1, name);
+    io::print_decimal(1, n);
+}
 
 // A hexadecimal digit, in upper case.
 fn digit(n: u8) -> u8
@@ -8,75 +17,91 @@ fn digit(n: u8) -> u8
     if n < 10 { b'0' + n } else { b'A' + (n - 10) }
 }
 
-// A byte in two digits.
-pub fn print_byte(b: u8) {
-    let digits = [digit(b / 16), digit(b % 16)];
+// A byte in two digits behind a space.
+fn print_byte(b: u8) {
+    let digits = [b' ', digit(b / 16), digit(b % 16)];
     io::write_all(1, &digits);
 }
 
-// A byte behind a space.
-fn print_spaced(b: u8) {
-    io::write_all(1, b" ");
-    print_byte(b);
-}
-
-// A byte so many times; above eight by their number.
-fn print_run(b: u8, count: u64) {
-    if count > 8 {
-        print_spaced(b);
-        print_named(b"*", count);
-        return;
-    }
-    let mut left = count;
-    while left > 0 {
-        print_spaced(b);
-        left -= 1;
-    }
-}
-
-// Whether this byte stands at a place.
-fn stands(s: &[u8], at: usize, b: u8) -> bool {
-    if at < s.len() { s[at] == b } else { false }
-}
-
-pub fn print_bytes(s: &[u8]) {
-    let mut count: u64 = 0;
-    let mut i = 0;
+// The place behind the bytes that are this one, from a place on.
+fn run_end(s: &[u8], at: usize, b: u8) -> usize
+    ensures { λ r. ⌜ at ≤ r ⌝ }
+{
+    let mut i = at;
     while i < s.len() {
-        let b = s[i];
-        i += 1;
-        count = std::num::wrapping_add_u64(count, 1);
-        if !stands(s, i, b) {
-            print_run(b, count);
-            count = 0;
+        if s[i] != b {
+            return i;
         }
+        i += 1;
     }
-}
-
-// A word as a signed integer.
-pub fn print_signed(word: u64) {
-    if word < 9223372036854775808 {
-        io::print_decimal(1, word);
-        return;
-    }
-    io::write_all(1, b"-");
-    io::print_decimal(1, std::num::wrapping_sub_u64(0, word));
-}
-
-// A number behind its name.
-pub fn print_named(name: &[u8], n: u64) {
-    io::write_all(1, name);
-    io::print_decimal(1, n);
+    i
 }
 
 // Whether each byte from a place on is this one.
-pub fn is_filled(s: &[u8], from: usize, b: u8) -> bool {
-    let mut i = from;
-    while i < s.len() {
-        if s[i] != b {
-            return false;
-        }
+pub fn is_filled(s: &[u8], at: usize, b: u8) -> bool {
+    run_end(s, at, b) >= s.len()
+}
+
+// Prints the byte at a place, or more than eight that are the same by their number; the place behind them.
+fn print_run(s: &[u8], at: usize) -> usize
+    requires { ⌜ at < length (now s) ⌝ }
+    ensures { λ r. ⌜ at < r ⌝ }
+{
+    let b = peek(s, at);
+    print_byte(b);
+    let end = run_end(s, at, b);
+    if end - at > 8 {
+        print_named(b"*", (end - at) as u64);
+        return end;
+    }
+    at + 1
+}
+
+pub fn print_bytes(s: &[u8]) {
+    let mut at = 0;
+    while at < s.len() {
+        at = print_run(s, at);
+    }
+}
+
+// The field of an integer, of its word.
+fn print_integer(word: u64) {
+    if word < 9223372036854775808 {
+        print_named(b" i", word);
+        return;
+    }
+    print_named(b" i-", std::num::wrapping_sub_u64(0, word));
+}
+
+// The number that the bytes from a place up to another write, the highest first.
+fn word_at(s: &[u8], at: usize, end: usize) -> u64 {
+    let mut word = 0;
+    let mut i = at;
+    while i < end {
+        word = (word << 8) | peek(s, i) as u64;
         i += 1;
     }
-    true
+    word
+}
+
+// The place behind the field at a place; the field of an integer as the notation has it, another by its bytes.
+fn print_field(s: &[u8], at: usize) -> usize
+    requires { ⌜ at < length (now s) ⌝ }
+    ensures { λ r. ⌜ at < r ⌝ }
+{
+    let start = at + 3;
+    let end = start + (word_at(s, at + 1, start) % 65536) as usize;
+    if peek(s, at) == 1 {
+        print_integer(word_at(s, start, end));
+        return end;
+    }
+    print_bytes(part(s, at, end));
+    end
+}
+
+pub fn print_list(s: &[u8]) {
+    let mut at = 0;
+    while at < s.len() {
+        at = print_field(s, at);
+    }
 }

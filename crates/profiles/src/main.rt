@@ -14,7 +14,8 @@
 mod calls;
 mod random;
 
-use calls::bound;
+use bytes::scan::find;
+use calls::bound_of;
 use calls::continued;
 use calls::measure;
 use calls::read;
@@ -25,12 +26,11 @@ use definition::State;
 use notation::behind;
 use notation::behind_word;
 use notation::bytes;
-use notation::line_end;
+use notation::front;
+use notation::part;
 use notation::peek;
 use notation::room;
 use random::random;
-ghost use Prim.Native.Nat.{_≤_};
-ghost use lib.ListN.{length};
 
 // Answers a call on a format and a list or data, the rest of whose line stands at a place.
 fn answer_two(call: u8, format: &[u8], list: &[u8], s: &[u8], at: usize, state: State) -> State {
@@ -48,15 +48,14 @@ fn answer_two(call: u8, format: &[u8], list: &[u8], s: &[u8], at: usize, state: 
 fn answer_list(call: u8, format: &[u8], s: &[u8], at: usize, state: State) -> State {
     let mut list = room(0);
     let l = bytes(s, behind(at), &mut list);
-    let n = l.n;
-    answer_two(call, format, &list[0..n], s, l.next, state)
+    answer_two(call, format, front(&list, l.n), s, l.at, state)
 }
 
 // Answers a call on a format.
 fn answer_format(call: u8, format: &[u8], s: &[u8], at: usize, state: State) -> State {
     match call {
         b'm' => measure(format),
-        b'b' => bound(format, s, at),
+        b'b' => bound_of(format, s, at),
         b's' => return state_of(s, at),
         b'a' => random(format, s, at),
         _ => return answer_list(call, format, s, at, state),
@@ -72,15 +71,12 @@ fn answer(s: &[u8], at: usize, state: State) -> State {
     let word = behind_word(s, at);
     let mut format = room(0);
     let f = bytes(s, behind_word(s, word), &mut format);
-    let n = f.n;
-    answer_format(peek(s, word), &format[0..n], s, f.next, state)
+    answer_format(peek(s, word), front(&format, f.n), s, f.at, state)
 }
 
 // Writes a line and the answer to it.
-fn line(s: &[u8], at: usize, end: usize, state: State) -> State
-    requires { ⌜ (at ≤ end) × (end ≤ length (now s)) ⌝ }
-{
-    io::write_all(1, &s[at..end]);
+fn line(s: &[u8], at: usize, end: usize, state: State) -> State {
+    io::write_all(1, part(s, at, end));
     let next = answer(s, at, state);
     io::write_all(1, b"\n");
     next
@@ -90,7 +86,7 @@ fn run(s: &[u8]) {
     let mut at = 0;
     let mut state = start_state();
     while at < s.len() {
-        let end = line_end(s, at);
+        let end = find(s, at, s.len(), b'\n');
         state = line(s, at, end, state);
         at = end + 1;
     }
@@ -99,5 +95,5 @@ fn run(s: &[u8]) {
 fn main() {
     let mut input = io::large_buffer();
     let n = io::read_full(0, &mut input);
-    run(&input[0..n]);
+    run(front(&input, n));
 }

@@ -1,19 +1,17 @@
 // Formats of 4,096 random bytes, through every call.
 use crate::calls::FILL;
-use crate::calls::lent;
-use measure::Measured;
-use measure::list_bound;
-use measure::string_packsize;
-use notation::argument;
-use notation::atom;
+use notation::Answer;
+use notation::bound;
+use notation::bytes;
+use notation::front;
 use notation::is_filled;
+use notation::number;
+use notation::pack;
 use notation::peek;
 use notation::print_named;
 use notation::room;
-use read::Unpacking;
-use read::string_unpack;
-use write::Packed;
-use write::string_pack;
+use notation::size;
+use notation::unpack;
 
 // How many formats were measured and written, and for how many the answers disagree with each other.
 struct Tally {
@@ -51,130 +49,107 @@ fn draw(alphabet: &[u8], seed: u64, format: &mut [u8]) -> u64 {
     x
 }
 
-// Appends a value that an option takes, if it takes one.
-fn put_value(list: &mut [u8], n: usize, option: u8) -> usize {
+// Where the value that an option takes stands in 0300024142/i7/: a text, none, or an integer.
+fn place_of(option: u8) -> usize {
     match option {
-        b'z' | b's' => {
-            let t = atom(b"0300024142", 0, list, n);
-            t.n
-        }
-        b'<' | b'>' | b'=' | b'!' | b' ' | b'x' => n,
-        _ => {
-            let t = atom(b"i7", 0, list, n);
-            t.n
-        }
+        b'z' | b's' => 0,
+        b'<' | b'>' | b'=' | b'!' | b' ' | b'x' => 10,
+        _ => 11,
     }
 }
 
+// Appends a value to a list of n bytes.
+fn put_value(list: &mut [u8], n: usize, values: &[u8], at: usize) -> usize {
+    if n < list.len() {
+        let v = bytes(values, at, &mut list[n..]);
+        return std::num::wrapping_add_usize(n, v.n);
+    }
+    n
+}
+
 // The values for the bytes of a format, each as an option.
-fn put_values(format: &[u8], list: &mut [u8]) -> usize {
+fn put_values(format: &[u8], list: &mut [u8], values: &[u8]) -> usize {
     let mut n = 0;
     let mut i = 0;
     while i < format.len() {
-        n = put_value(list, n, format[i]);
+        n = put_value(list, n, values, place_of(format[i]));
         i += 1;
     }
     n
 }
 
-// The number of a refusal, or 0.
-fn refusal(m: Measured) -> u8 {
-    match m {
-        Measured::Size(_) => 0,
-        Measured::Refused(k) => k,
-    }
-}
-
 // Whether a format that writing refuses with k is refused so by the bound, and by measuring unless a text comes before:
 // the numbers up to 8 are about the format alone.
 fn is_refused(format: &[u8], k: u8) -> bool {
-    let m = refusal(string_packsize(format));
-    let b = refusal(list_bound(format, 70000));
-    k > 8 || (b == k && (m == k || m == 10))
+    let m = size(format);
+    let b = bound(format, 70000);
+    (k > 8) | ((b.refusal == k) & ((m.refusal == k) | (m.refusal == 10)))
 }
 
 // Whether a format measures n, or has a text.
 fn is_size(format: &[u8], n: u64) -> bool {
-    match string_packsize(format) {
-        Measured::Size(m) => m == n,
-        Measured::Refused(k) => k == 10,
-    }
+    let m = size(format);
+    ((m.refusal == 0) & (m.length == n)) | (m.refusal == 10)
 }
 
 // Whether a value list of n bytes is within the bound.
 fn is_within(format: &[u8], data_length: u64, n: u64) -> bool {
-    match list_bound(format, data_length) {
-        Measured::Size(m) => n <= m,
-        Measured::Refused(_) => false,
-    }
+    let b = bound(format, data_length);
+    (b.refusal == 0) & (n <= b.length)
 }
 
 // Whether a value list writes a record.
 fn writes(format: &[u8], list: &[u8], record: &[u8]) -> bool {
     let mut out = room(FILL);
-    match string_pack(format, list, &mut out) {
-        Packed::Length(n) => {
-            let end = lent(n);
-            check::same(&out[0..end], record)
-        }
-        Packed::Refused(_) => false,
-    }
+    let a = pack(format, list, &mut out);
+    (a.refusal == 0) & check::same(front(&out, a.length as usize), record)
 }
 
 // Whether a record is read to its end, within the bound, and its values write it again.
 fn is_read_back(format: &[u8], record: &[u8]) -> bool {
     let mut list = room(FILL);
-    let size = record.len() as u64;
-    match string_unpack(format, record, 1, &mut list) {
-        Unpacking::Unpacked(u) => {
-            let next = u.next;
-            let n = u.length;
-            let end = lent(n);
-            let ends = next.0 == std::num::wrapping_add_u64(size, 1);
-            ends & is_within(format, size, n) & writes(format, &list[0..end], record)
-        }
-        Unpacking::Refused(_) => false,
-    }
+    let n = record.len() as u64;
+    let a = unpack(format, record, 1, &mut list);
+    let ends = a.next == std::num::wrapping_add_u64(n, 1);
+    ends & is_within(format, n, a.length) & writes(format, front(&list, a.length as usize), record)
 }
 
-// Whether reading zeros gives a list within the bound, or changes nothing.
+// Whether reading zeros gives a list within the bound, or refuses, and changes no other byte.
 fn is_read(format: &[u8]) -> bool {
     let data = room(0);
     let mut list = room(FILL);
-    match string_unpack(format, &data, 1, &mut list) {
-        Unpacking::Unpacked(u) => is_within(format, 70000, u.length),
-        Unpacking::Refused(_) => is_filled(&list, 0, FILL),
+    let a = unpack(format, &data, 1, &mut list);
+    let fits = (a.refusal > 0) | is_within(format, 70000, a.length);
+    fits & is_filled(&list, a.length as usize, FILL)
+}
+
+// Whether the other calls agree with what writing answered.
+fn agrees(format: &[u8], record: &[u8], a: Answer) -> bool {
+    if a.refusal > 0 {
+        return is_refused(format, a.refusal);
     }
+    is_size(format, a.length) & is_read_back(format, record)
 }
 
 // One format more.
 fn tried(format: &[u8], list: &[u8], t: Tally) -> Tally {
     let mut out = room(FILL);
-    let mut written = t.written;
-    let mut agrees = is_read(format);
-    match string_pack(format, list, &mut out) {
-        Packed::Length(n) => {
-            let end = lent(n);
-            written = std::num::wrapping_add_u64(written, 1);
-            agrees = agrees & is_size(format, n) & is_read_back(format, &out[0..end]);
-        }
-        Packed::Refused(k) => {
-            agrees = agrees & is_refused(format, k) & is_filled(&out, 0, FILL);
-        }
-    }
-    let sized = refusal(string_packsize(format)) == 0;
+    let a = pack(format, list, &mut out);
+    let end = a.length as usize;
+    let m = size(format);
+    let agree = is_read(format) & agrees(format, front(&out, end), a) & is_filled(&out, end, FILL);
     Tally {
-        measured: std::num::wrapping_add_u64(t.measured, sized as u64),
-        written,
-        disagree: std::num::wrapping_add_u64(t.disagree, !agrees as u64),
+        measured: std::num::wrapping_add_u64(t.measured, (m.refusal == 0) as u64),
+        written: std::num::wrapping_add_u64(t.written, (a.refusal == 0) as u64),
+        disagree: std::num::wrapping_add_u64(t.disagree, !agree as u64),
     }
 }
 
 // The same with the values for the format.
 fn tried_with_values(format: &[u8], t: Tally) -> Tally {
     let mut list = room(0);
-    let n = lent(put_values(format, &mut list) as u64);
-    tried(format, &list[0..n], t)
+    let n = put_values(format, &mut list, b"0300024142/i7/");
+    tried(format, front(&list, n), t)
 }
 
 fn try_all(alphabet: &[u8], seed: u64, count: u64) -> Tally {
@@ -194,12 +169,15 @@ fn try_all(alphabet: &[u8], seed: u64, count: u64) -> Tally {
     t
 }
 
-pub fn random(alphabet: &[u8], s: &[u8], at: usize) {
-    let seed = argument(s, at, 1);
-    let count = argument(s, seed.next, 1).value;
-    let t = try_all(alphabet, seed.value, count);
-    print_named(b": formats ", count);
+fn print_tally(t: Tally) {
     print_named(b", measured ", t.measured);
     print_named(b", written ", t.written);
     print_named(b", disagree ", t.disagree);
+}
+
+pub fn random(alphabet: &[u8], s: &[u8], at: usize) {
+    let seed = number(s, at, b'/', 1);
+    let count = number(s, seed.at, b'/', 1);
+    print_named(b": formats ", count.value);
+    print_tally(try_all(alphabet, seed.value, count.value));
 }

@@ -174,7 +174,6 @@ module _ (l : List ℕ) (at n : ℕ) (whole : Whole l at n) where
             go true d e = eqb-true tag 2 d
             go false d e = absurd (let z : _≡_ {A = ℕ} 0 1 = cc in omega arith)
 
-
 module _ (l : List ℕ) (at n : ℕ) (v : Value) (whole : Whole l at n) (is : ValueRead l at n v) where
   pub found : FieldRead l at (Found v (at + 3 + n))
   found = record { says = is .says; sound = record { behind = omega arith; within = whole .complete .within; proper = is .proper; inside = is .inside } }

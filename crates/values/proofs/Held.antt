@@ -134,7 +134,8 @@ module _ (E : Enum.Declared) (laws : EL.Laws E) (few : Few (Enum.shape E)) where
         gave P u = later (some (λ (r : Out .Denot). (alive ⊛ ‵ (Out .own r (u ∷ []))) ⊛ raw (P r)))
 
         -- the end of both walks: the answer is stored in _0 and returned
-        ending : (Kf : Val → SProp 𝓤) (P Q : Out .Denot → SProp 𝓤) → ((r : Out .Denot) → ent 𝓤 (P r) (Q r)) → ((r : Out .Denot) (u : Val) → ent 𝓤 (⋆ 𝓤 H A (‵ (Out .own r (u ∷ [])) ∷ alive ∷ raw (Q r) ∷ [])) (Kf u))
+        ending : (Kf : Val → SProp 𝓤) (P Q : Out .Denot → SProp 𝓤) → ((r : Out .Denot) → ent 𝓤 (P r) (Q r))
+            → ((r : Out .Denot) (u : Val) → ent 𝓤 (⋆ 𝓤 H A (‵ (Out .own r (u ∷ [])) ∷ alive ∷ raw (Q r) ∷ [])) (Kf u))
             → {C : Calls 𝓤 H} {Λ : Loops 𝓤 H} {τ₁ τ₂ τ₃ : Ty} {l₀ l₁ l₂ l₃ : ℕ} {v₁ v₂ v₃ : Val} (u : Val)
             → Seq (Go {0}) W (gave P u ∷ ‵ (fat fullShare τ₃ l₃ 0 v₃) ∷ ‵ (fdies τ₃ l₃) ∷ ‵ (fat fullShare τ₂ l₂ 0 v₂) ∷ ‵ (fdies τ₂ l₂) ∷ ‵ (fat fullShare τ₁ l₁ 0 v₁) ∷ ‵ (fdies τ₁ l₁) ∷ ‵ (froom τ l₀ 0) ∷ ‵ (fdies τ l₀) ∷ [])
             (lands C Λ ((τ, l₀) ∷ (τ₁, l₁) ∷ (τ₂, l₂) ∷ (τ₃, l₃) ∷ []) (place 0 []) u return (atRet ((τ, l₀) ∷ (τ₁, l₁) ∷ (τ₂, l₂) ∷ (τ₃, l₃) ∷ []) Kf))
@@ -224,7 +225,8 @@ module _ (E : Enum.Declared) (laws : EL.Laws E) (few : Few (Enum.shape E)) where
             (λ κs qs bounds a g are. made-walk (κs .0) (qs .0) (a .0) (a .1 .0) (𝓣 .C) (𝓣 .Λ) (fmOf 𝓤 H (W .laws) 𝓣) f known (are .0) (are .1 .0 .1)))
 
   -- ---- the function of the key k, in an environment where f is the callee
-  module _ {M : Type 1} (𝓤 : URA M) (H : Heap 𝓤) (𝓜 : Model 𝓤 H) (𝓖 : GhostRules 𝓤 H) (𝓡 : Running 𝓤 H 𝓜) (Asks : RefT (List ℕ) → ℕ → SProp 𝓤) (Says : RefT (List ℕ) → ℕ → Out .Denot → SProp 𝓤) (γ : Env) (k f : Name) (callee : Routine) (calls : γ f ≡ callee) where
+  module _ {M : Type 1} (𝓤 : URA M) (H : Heap 𝓤) (𝓜 : Model 𝓤 H) (𝓖 : GhostRules 𝓤 H) (𝓡 : Running 𝓤 H 𝓜)
+      (Asks : RefT (List ℕ) → ℕ → SProp 𝓤) (Says : RefT (List ℕ) → ℕ → Out .Denot → SProp 𝓤) (γ : Env) (k f : Name) (callee : Routine) (calls : γ f ≡ callee) where
     abbrev C : Calls 𝓤 H
     C = tables 𝓤 H 𝓜 𝓡 γ .C
 

@@ -1,5 +1,4 @@
 pub mod Loading
-pub mod Storing
 pub mod Contents
 pub mod Fields
 pub mod Lists

@@ -1,7 +1,7 @@
--- A list has values, or it is refused by 21.
+-- A list that has no values is refused by 21.
 use Prim.Native.Nat.{ℕ}
-use mathlib.Core.Path.{_≡_, refl, ap}
-use mathlib.Core.Bool.{true, false, false≢true, true≢false}
+use mathlib.Core.Path.{_≡_, ap}
+use mathlib.Core.Bool.{false, true≢false}
 use mathlib.Core.List.{List}
 use lib.Dec.{eqb→eq}
 use Rattle.definition.specs.Answers.{Checked, refused, accepted}
@@ -16,10 +16,3 @@ refused-list l e = go (values l) (values-21 l) e
     go : (c : Checked (List definition.Value)) → By21 c → isAccepted c ≡ false → c ≡ refused 21
     go (refused k) (low h) e = ap refused (eqb→eq k 21 h)
     go (accepted vs) h e = absurd (true≢false e)
-
-pub accepted-list : (l : List ℕ) → isAccepted (values l) ≡ true → (vs : List definition.Value) × (values l ≡ accepted vs)
-accepted-list l e = go (values l) e
-  where
-    go : (c : Checked (List definition.Value)) → isAccepted c ≡ true → (vs : List definition.Value) × (c ≡ accepted vs)
-    go (refused k) e = absurd (false≢true e)
-    go (accepted vs) e = (vs, refl)

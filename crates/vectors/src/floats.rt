@@ -41,7 +41,7 @@ fn listed(bits: u64) -> Value
     ensures { λ r. ⌜ Proper r ⌝ }
 {
     let mut list = [0u8; 11];
-    values::put_float(&mut list, 0, bits);
+    fields::put_float(&mut list, 0, bits);
     first(&list)
 }
 

@@ -5,21 +5,23 @@ mod integers;
 mod places;
 mod vector;
 
+use bytes::scan::find;
 use coder::words::sign_byte;
 use coder::words::to_signed;
-use vector::Line;
+use notation::Group;
+use notation::behind;
+use notation::counted;
+use notation::front;
+use notation::group_at;
+use notation::part;
+use notation::peek;
+use notation::report;
+use notation::room_for_input;
 use vector::Vector;
-use vector::blank;
 use vector::taken;
 
-// The vectors of a group so far, and how many do not hold.
-struct Tally {
-    count: u64,
-    wrong: u64,
-}
-
 // Whether a vector holds.
-fn holds(line: &Line, v: Vector) -> bool {
+fn holds(line: &[u8], v: Vector) -> bool {
     if v.size > 16 {
         return false;
     }
@@ -45,57 +47,34 @@ fn holds(line: &Line, v: Vector) -> bool {
     }
 }
 
-// One vector more.
-fn counted(line: &Line, t: Tally) -> Tally {
-    let count = std::num::wrapping_add_u64(t.count, 1);
-    if holds(line, taken(line)) {
-        return Tally {
-            count: count,
-            wrong: t.wrong,
-        };
-    }
-    io::write_all(1, line);
-    Tally {
-        count: count,
-        wrong: std::num::wrapping_add_u64(t.wrong, 1),
-    }
+// Writes a group's name, in 24 columns, and its tally.
+fn print_group(s: &[u8], g: Group) {
+    report(s, g, b"");
 }
 
-// Writes a group's name and its tally.
-fn report(heading: &Line, t: Tally) {
-    if t.count == 0 {
-        return;
+// A line: the name of the next group, or a vector.
+fn next(s: &[u8], at: usize, end: usize, g: Group) -> Group {
+    let line = part(s, at, end);
+    if peek(s, at) == b'#' {
+        print_group(s, g);
+        return group_at(behind(behind(at)), std::num::wrapping_add_usize(at, 26));
     }
-    let whole = &heading[..];
-    io::write_all(1, &whole[2..26]);
-    io::print_decimal(1, t.count);
-    if t.wrong == 0 {
-        io::write_all(1, b" ok\n");
-        return;
-    }
-    io::write_all(1, b", wrong: ");
-    io::print_decimal(1, t.wrong);
-    io::write_all(1, b"\n");
+    counted(g, holds(line, taken(line)), line)
 }
 
-// A loop has to end, and nothing says that the input does: the turns are counted down, from more than it has lines.
+fn run(s: &[u8]) {
+    let mut at = 0;
+    let mut g = group_at(0, 0);
+    while at < s.len() {
+        let end = find(s, at, s.len(), b'\n');
+        g = next(s, at, end, g);
+        at = end + 1;
+    }
+    print_group(s, g);
+}
+
 fn main() {
-    let mut heading = blank();
-    let mut tally = Tally { count: 0, wrong: 0 };
-    let mut turns: u64 = 1000000;
-    while turns > 0 {
-        turns -= 1;
-        let mut line = blank();
-        if io::read_full(0, &mut line) < 59 {
-            report(&heading, tally);
-            return;
-        }
-        if line[0] == b'#' {
-            report(&heading, tally);
-            heading = line;
-            tally = Tally { count: 0, wrong: 0 };
-        } else {
-            tally = counted(&line, tally);
-        }
-    }
+    let mut input = room_for_input();
+    let n = io::read_full(0, &mut input);
+    run(front(&input, n));
 }

@@ -1,12 +1,11 @@
 // Start positions, alignment, lengths and whole value lists.
-use crate::vector::Line;
 use crate::vector::Vector;
 use crate::vector::bytes;
 use align::Amount;
 use align::Next;
 use definition::State;
+use notation::front;
 use position::Started;
-ghost use Prim.Native.Nat.{_≤_};
 
 // A start in data of a length: the position that it means, or refused.
 pub fn is_start(v: Vector) -> bool {
@@ -51,10 +50,6 @@ pub fn is_sound(v: Vector) -> bool {
 }
 
 // Whether so many bytes are a value list.
-pub fn is_list(line: &Line, v: Vector) -> bool
-    requires { ⌜ v .size ≤ 16 ⌝ }
-{
-    let n = v.size;
-    let list = bytes(line);
-    values::is_list(&list[..n]) == v.answers
+pub fn is_list(line: &[u8], v: Vector) -> bool {
+    values::is_list(front(&bytes(line), v.size)) == v.answers
 }

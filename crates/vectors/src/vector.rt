@@ -1,10 +1,7 @@
 // A vector: a line of the input, taken apart.
+use notation::peek;
 ghost use mathlib.Core.Path.{_≡_};
-ghost use Prim.Native.Nat.{_+_, _≤_};
 ghost use lib.ListN.{length};
-
-// A line of the input.
-pub type Line = [u8; 59];
 
 pub struct Vector {
     pub group: u8,
@@ -18,53 +15,49 @@ pub struct Vector {
     pub c: u64,
 }
 
-// A line of nothing.
-pub fn blank() -> Line
-    ensures { λ r. ⌜ 59 ≡ length r ⌝ }
-{
-    [0; 59]
-}
-
-// A hexadecimal digit.
+// A hexadecimal digit, in lower case.
 fn digit(b: u8) -> u64 {
     let d = b as u64;
-    if d < 58 { d % 16 } else { d % 16 + 9 }
+    d % 16 + d / 64 * 9
 }
 
-// The number that n digits write.
-fn number(line: &Line, at: usize, n: usize) -> u64
-    requires { ⌜ at + n ≤ 59 ⌝ }
-{
+// The number that the digits from a place up to another write.
+fn number(line: &[u8], at: usize, end: usize) -> u64 {
     let mut word = 0;
-    let mut k = 0;
-    while k < n {
-        word = (word << 4) | digit(line[at + k]);
-        k += 1;
+    let mut i = at;
+    while i < end {
+        word = (word << 4) | digit(peek(line, i));
+        i += 1;
     }
     word
 }
 
-pub fn taken(line: &Line) -> Vector {
+pub fn taken(line: &[u8]) -> Vector {
     Vector {
-        group: line[0],
-        size: number(line, 2, 2) as usize,
-        big: line[5] == b'>',
-        answers: line[7] == b'=',
-        a: number(line, 9, 16),
-        b: number(line, 26, 16),
-        c: number(line, 42, 16),
+        group: peek(line, 0),
+        size: number(line, 2, 4) as usize,
+        big: peek(line, 5) == b'>',
+        answers: peek(line, 7) == b'=',
+        a: number(line, 9, 25),
+        b: number(line, 26, 42),
+        c: number(line, 42, 58),
     }
 }
 
 // The 16 bytes in place of two words.
-pub fn bytes(line: &Line) -> [u8; 16]
+pub fn bytes(line: &[u8]) -> [u8; 16]
     ensures { λ r. ⌜ 16 ≡ length r ⌝ }
 {
     let mut out = [0u8; 16];
     let mut k = 0;
     while k < 16 {
-        out[k] = (number(line, 26 + 2 * k, 2) % 256) as u8;
+        out[k] = (number(line, 26 + 2 * k, 28 + 2 * k) % 256) as u8;
         k += 1;
     }
     out
+}
+
+// Whether these are the bytes.
+pub fn has_bytes(line: &[u8], out: &[u8]) -> bool {
+    check::same(out, &bytes(line))
 }

@@ -7,9 +7,6 @@ use Rattle.line.proofs.Inputs.{answer-long, answer-short}
 use Rattle.line.proofs.answer.Statement.{statement}
 use Rattle.line.proofs.answer.Tie as tie
 
-first-line-requires : tie.Need-first-line-requires
-first-line-requires c κs = search needs
-
 returns : tie.Need-returns
 returns c =
     let f = c .before .first-line in
@@ -17,9 +14,6 @@ returns c =
 
 slice-aggregate-string-packsize : tie.Need-slice-aggregate-string-packsize
 slice-aggregate-string-packsize c = sym (length-take-le (c .before .before .first-line .result) (c .before .before .before .before .args .input .now) (c .before .before .first-line .ensures .0))
-
-string-packsize-requires : tie.Need-string-packsize-requires
-string-packsize-requires c κs = search needs
 
 returns-2 : tie.Need-returns-2
 returns-2 c =
@@ -31,8 +25,8 @@ pub answer-spec : {M : Type 1} → statement M
 answer-spec =
     tie.close
     (tie.spec
-    first-line-requires
+    (λ c κs. search needs)
     returns
     slice-aggregate-string-packsize
-    string-packsize-requires
+    (λ c κs. search needs)
     returns-2)

@@ -5,9 +5,6 @@ use Rattle.line.proofs.Inputs.{settled-long, settled-short}
 use Rattle.line.proofs.is_settled.Statement.{statement}
 use Rattle.line.proofs.is_settled.Tie as tie
 
-first-line-requires : tie.Need-first-line-requires
-first-line-requires c κs = search needs
-
 returns : tie.Need-returns
 returns c =
     let f = c .before .first-line in
@@ -19,4 +16,4 @@ returns-2 c =
     settled-short (now (c .before .before .before .args .input)) (f .result) (f .ensures .1) (f .ensures .0) (c .if1 .left)
 
 pub is-settled-spec : {M : Type 1} → statement M
-is-settled-spec = tie.close (tie.spec first-line-requires returns returns-2)
+is-settled-spec = tie.close (tie.spec (λ c κs. search needs) returns returns-2)

@@ -11,15 +11,6 @@ use Rattle.line.proofs.Buffers.{length-20, line-length, line-held}
 use Rattle.line.proofs.put_line.Statement.{statement}
 use Rattle.line.proofs.put_line.Tie as tie
 
-put-requires : tie.Need-put-requires
-put-requires c κs = search needs
-
-put-decimal-requires : tie.Need-put-decimal-requires
-put-decimal-requires c κs = search needs
-
-slice-aggregate-put : tie.Need-slice-aggregate-put
-slice-aggregate-put c = search needs
-
 put-requires-2 : tie.Need-put-requires-2
 put-requires-2 c κs =
     let s = c .before .before .before .before .before .before .before .before .before .before .before .before in
@@ -39,7 +30,7 @@ returns c =
     let x = c .before .before .before .before .before .before .before .before .before .before .before .put in
     let y = c .before .before .before .before .before .before .before .put-decimal in
     let z = c .before .before .put2 in
-    let fits : length l + length d ≤ length o = omega (arith, length-20 (s .args .n), s .pre) in (
+    let fits : length l + (length d + 1) ≤ length o = omega (arith, length-20 (s .args .n), s .pre) in (
       line-length l d (10 ∷ []) (x .result) (y .result) (z .result) (x .ensures .0) (y .ensures .0) (z .ensures .0),
       line-held o l d (10 ∷ []) (x .result) (y .result) (x .ensures .0) (y .ensures .0) fits (x .last .0) (y .last .0) (z .last .0) (x .ensures .1) (y .ensures .1) (z .ensures .1),
     )
@@ -47,4 +38,4 @@ returns c =
 pub put-line-spec : {M : Type 1} → statement M
 put-line-spec =
     tie.close
-    (tie.spec put-requires put-decimal-requires slice-aggregate-put put-requires-2 same-length returns)
+    (tie.spec (λ c κs. search needs) (λ c κs. search needs) (λ c. search needs) put-requires-2 same-length returns)

@@ -8,21 +8,6 @@ use lib.Seq.{length-take-le}
 use Rattle.packsize.proofs.main.Statement.{statement}
 use Rattle.packsize.proofs.main.Tie as tie
 
-slice-aggregate-read-line : tie.Need-slice-aggregate-read-line
-slice-aggregate-read-line c = search needs
-
-read-line-requires : tie.Need-read-line-requires
-read-line-requires c κs = search needs
-
-array-share-prefix-input : tie.Need-array-share-prefix-input
-array-share-prefix-input c = search needs
-
-slice-aggregate-answer-line : tie.Need-slice-aggregate-answer-line
-slice-aggregate-answer-line c = search needs
-
-answer-line-requires : tie.Need-answer-line-requires
-answer-line-requires c κs = search needs
-
 inside : (c : tie.After-answer-line) → c .answer-line .result ≤ length (c .answer-line .last .1 .0)
 inside c = rw (c .answer-line .ensures .1, c .answer-line .ensures .0, length-append) (omega arith)
 
@@ -32,22 +17,16 @@ array-share-prefix-out c = inside c
 slice-aggregate-write-all : tie.Need-slice-aggregate-write-all
 slice-aggregate-write-all c = sym (length-take-le (c .before .answer-line .result) (c .before .answer-line .last .1 .0) (inside (c .before)))
 
-write-all-requires : tie.Need-write-all-requires
-write-all-requires c κs = search needs
-
-returns : tie.Need-returns
-returns c = search needs
-
 pub main-spec : {M : Type 1} → statement M
 main-spec =
     tie.close
     (tie.spec
-    slice-aggregate-read-line
-    read-line-requires
-    array-share-prefix-input
-    slice-aggregate-answer-line
-    answer-line-requires
+    (λ c. search needs)
+    (λ c κs. search needs)
+    (λ c. search needs)
+    (λ c. search needs)
+    (λ c κs. search needs)
     array-share-prefix-out
     slice-aggregate-write-all
-    write-all-requires
-    returns)
+    (λ c κs. search needs)
+    (λ c. search needs))

@@ -18,21 +18,6 @@ below c = negative (c .before .before .args .start) (c .before .before .fits .st
 above : (c : tie.Else1) → c .before .before .args .start ≡ pos (c .before .extent .result)
 above c = positive (c .before .before .args .start) (c .before .before .fits .start) (c .if1 .left) ∙ ap pos (got (c .before))
 
-extent-requires : tie.Need-extent-requires
-extent-requires c κs = search needs
-
-sub-t9 : tie.Need-sub-t9
-sub-t9 c = search needs
-
-sub-t10 : tie.Need-sub-t10
-sub-t10 c = search needs
-
-sub-if4 : tie.Need-sub-if4
-sub-if4 c = search needs
-
-sub-t17 : tie.Need-sub-t17
-sub-t17 c = search needs
-
 returns : tie.Need-returns
 returns c = from-the-end _ _ _ (below (c .before)) (c .if2 .taken)
 
@@ -52,11 +37,11 @@ pub offset-of-spec : {M : Type 1} → statement M
 offset-of-spec =
     tie.close
     (tie.spec
-    extent-requires
-    sub-t9
-    sub-t10
-    sub-if4
-    sub-t17
+    (λ c κs. search needs)
+    (λ c. search needs)
+    (λ c. search needs)
+    (λ c. search needs)
+    (λ c. search needs)
     returns
     returns-2
     returns-3

@@ -7,12 +7,6 @@ use Rattle.single.proofs.Widening.{double-lt, double-sign}
 use Rattle.single.proofs.from_single.Statement.{statement}
 use Rattle.single.proofs.from_single.Tie as tie
 
-mul-result : tie.Need-mul-result
-mul-result c = search needs
-
-widened-requires : tie.Need-widened-requires
-widened-requires c κs = search needs
-
 sum : (c : tie.After-widened) → c .before .args .bits / 2 ^ 31 * 2 ^ 63 + c .widened .result ≡ fromSingle (c .before .args .bits)
 sum c =
     let s = c .before in
@@ -25,4 +19,4 @@ returns : tie.Need-returns
 returns = sum
 
 pub from-single-spec : {M : Type 1} → statement M
-from-single-spec = tie.close (tie.spec mul-result widened-requires add-result returns)
+from-single-spec = tie.close (tie.spec (λ c. search needs) (λ c κs. search needs) add-result returns)

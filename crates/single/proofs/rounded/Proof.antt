@@ -9,29 +9,11 @@ use Rattle.single.proofs.Rounding.{single-lt, to-zero, to-subnormal, to
 use Rattle.single.proofs.rounded.Statement.{statement}
 use Rattle.single.proofs.rounded.Tie as tie
 
-add-significand : tie.Need-add-significand
-add-significand c = search needs
-
 returns : tie.Need-returns
 returns c = let s = c .before in sym (to-zero (s .args .magnitude) (s .pre) (c .if1 .taken))
 
-sub-nearest : tie.Need-sub-nearest
-sub-nearest c = search needs
-
-add-nearest : tie.Need-add-nearest
-add-nearest c = search needs
-
-nearest-requires : tie.Need-nearest-requires
-nearest-requires c κs = search needs
-
 returns-2 : tie.Need-returns-2
 returns-2 c = let s = c .before .before .before in c .nearest .ensures ∙ sym (to-subnormal (s .args .magnitude) (s .pre) (c .before .before .if1 .left) (c .before .if2 .taken))
-
-mul-result : tie.Need-mul-result
-mul-result c = search needs
-
-nearest-requires-2 : tie.Need-nearest-requires-2
-nearest-requires-2 c κs = search needs
 
 abbrev magnitude : tie.After-nearest2 → ℕ
 magnitude c = c .before .before .before .before .args .magnitude
@@ -50,13 +32,10 @@ returns-3 = normal
 returns-4 : tie.Need-returns-4
 returns-4 c = let s = c .before .before .before .before in sym (to-infinity (s .args .magnitude) (s .pre) (c .before .if3 .left) (c .if4 .taken))
 
-add-result-2 : tie.Need-add-result-2
-add-result-2 c = search needs
-
 returns-5 : tie.Need-returns-5
 returns-5 c = let s = c .before .before .before .before in sym (to-nan (s .args .magnitude) (s .pre) (c .if4 .left))
 
 pub rounded-spec : {M : Type 1} → statement M
 rounded-spec =
     tie.close
-    (tie.spec add-significand returns sub-nearest add-nearest nearest-requires returns-2 mul-result nearest-requires-2 add-result returns-3 returns-4 add-result-2 returns-5)
+    (tie.spec (λ c. search needs) returns (λ c. search needs) (λ c. search needs) (λ c κs. search needs) returns-2 (λ c. search needs) (λ c κs. search needs) add-result returns-3 returns-4 (λ c. search needs) returns-5)

@@ -9,12 +9,6 @@ use Rattle.single.proofs.Rounding.{single-lt, single-sign}
 use Rattle.single.proofs.to_single.Statement.{statement}
 use Rattle.single.proofs.to_single.Tie as tie
 
-mul-result : tie.Need-mul-result
-mul-result c = search needs
-
-rounded-requires : tie.Need-rounded-requires
-rounded-requires c κs = search needs
-
 sum : (c : tie.After-rounded) → c .before .args .bits / 2 ^ 63 * 2 ^ 31 + c .rounded .result ≡ toSingle (c .before .args .bits)
 sum c =
     let s = c .before in
@@ -30,4 +24,4 @@ returns : tie.Need-returns
 returns = sum
 
 pub to-single-spec : {M : Type 1} → statement M
-to-single-spec = tie.close (tie.spec mul-result rounded-requires add-result cast-result returns)
+to-single-spec = tie.close (tie.spec (λ c. search needs) (λ c κs. search needs) add-result cast-result returns)

@@ -41,9 +41,6 @@ sub-shift c = let h = up c .zeros-ge in omega arith
 sub-result : tie.Need-sub-result
 sub-result c = let h = up c .zeros-lt in omega arith
 
-mul-result : tie.Need-mul-result
-mul-result c = search needs
-
 shl-result : tie.Need-shl-result
 shl-result c = let h = up c .zeros-lt in omega arith
 
@@ -53,23 +50,11 @@ add-result c = record { fits = rw (subnormal c) (double-lt (magnitude c)) }
 returns-2 : tie.Need-returns-2
 returns-2 = subnormal
 
-mul-result-2 : tie.Need-mul-result-2
-mul-result-2 c = search needs
-
-add-result-2 : tie.Need-add-result-2
-add-result-2 c = search needs
-
 returns-3 : tie.Need-returns-3
 returns-3 c = let s = c .before .before .before in sym (from-normal (s .args .magnitude) (c .before .if2 .left) (c .if3 .taken))
 
 returns-4 : tie.Need-returns-4
 returns-4 c = sym (ap fromSingle (c .if4 .taken) ∙ from-infinity)
-
-mul-result-3 : tie.Need-mul-result-3
-mul-result-3 c = search needs
-
-add-result-3 : tie.Need-add-result-3
-add-result-3 c = search needs
 
 returns-5 : tie.Need-returns-5
 returns-5 c = let s = c .before .before .before .before in sym (from-nan (s .args .magnitude) (s .pre) (omega arith))
@@ -77,4 +62,4 @@ returns-5 c = let s = c .before .before .before .before in sym (from-nan (s .arg
 pub widened-spec : {M : Type 1} → statement M
 widened-spec =
     tie.close
-    (tie.spec returns cast-shift sub-shift sub-result mul-result shl-result add-result returns-2 mul-result-2 add-result-2 returns-3 returns-4 mul-result-3 add-result-3 returns-5)
+    (tie.spec returns cast-shift sub-shift sub-result (λ c. search needs) shl-result add-result returns-2 (λ c. search needs) (λ c. search needs) returns-3 returns-4 (λ c. search needs) (λ c. search needs) returns-5)

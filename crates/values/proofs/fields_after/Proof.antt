@@ -29,12 +29,6 @@ loop-holds c = (omega arith, refl)
 length-at-requires : tie.Need-length-at-requires Inv-loop μ-loop
 length-at-requires c κs = c .before .loop .inv .0
 
-enum-known-n : tie.Need-enum-known-n Inv-loop μ-loop
-enum-known-n c = search needs
-
-enum-told : tie.Need-enum-told Inv-loop μ-loop
-enum-told c = search needs
-
 returns : tie.Need-returns Inv-loop μ-loop
 returns c =
     let l = now (c .before .before .before .before .before .before .args .list) in
@@ -80,8 +74,8 @@ fields-after-spec =
     μ-loop
     loop-holds
     length-at-requires
-    enum-known-n
-    enum-told
+    (λ c. search needs)
+    (λ c. search needs)
     returns
     add-at
     add-at-2

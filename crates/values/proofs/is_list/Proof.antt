@@ -18,14 +18,8 @@ Inv-loop list at₀ at = isAccepted (values (drop at list)) ≡ isAccepted (valu
 abbrev μ-loop : tie.MeasureT-loop
 μ-loop list at₀ at = length list - at
 
-loop-holds : tie.Need-loop-holds Inv-loop μ-loop
-loop-holds c = refl
-
 content-at-requires : tie.Need-content-at-requires Inv-loop μ-loop
 content-at-requires c κs = c .loop-test .taken
-
-enum-known-n : tie.Need-enum-known-n Inv-loop μ-loop
-enum-known-n c = search needs
 
 whole : (c : tie.After-known-told Inv-loop μ-loop) → Whole (now (c .before .before .before .before .before .before .before .args .list)) (c .before .before .before .before .before .loop .at) (c .before .n .given .0 .0)
 whole c = rw (c .before .n .given .1) at (c .before .before .before .content-at .ensures)
@@ -48,9 +42,6 @@ loop-again c =
     let f = suited l (i .at) (c .before .n .given .0 .0) (h .complete) (h .tag) in
     sym (accepted-beginning (f .0) (values (drop next l))) ∙ ap isAccepted (sym (found-values l (i .at) (f .0) next (f .1))) ∙ i .inv
 
-enum-told : tie.Need-enum-told Inv-loop μ-loop
-enum-told c = search needs
-
 returns : tie.Need-returns Inv-loop μ-loop
 returns c =
     let l = now (c .before .before .before .before .before .before .args .list) in
@@ -70,13 +61,13 @@ is-list-spec =
     (tie.spec
     Inv-loop
     μ-loop
-    loop-holds
+    (λ c. refl)
     content-at-requires
-    enum-known-n
+    (λ c. search needs)
     add-at
     add-at-2
     loop-less
     loop-again
-    enum-told
+    (λ c. search needs)
     returns
     returns-2)

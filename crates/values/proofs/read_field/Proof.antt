@@ -11,8 +11,5 @@ returns c = at-end (now (c .before .before .args .list)) (c .before .before .arg
 value-at-requires : tie.Need-value-at-requires
 value-at-requires c κs = (c .if1 .left, c .before .before .pre)
 
-returns-2 : tie.Need-returns-2
-returns-2 c = search needs
-
 pub read-field-spec : {M : Type 1} → statement M
-read-field-spec = tie.close (tie.spec returns value-at-requires returns-2)
+read-field-spec = tie.close (tie.spec returns value-at-requires (λ c. search needs))

@@ -17,20 +17,8 @@ use Rattle.values.proofs.value_at.Tie as tie
 whole : (s : tie.Start) → Whole (now (s .args .list)) (s .args .at) (sizeAt (now (s .args .list)) (s .args .at))
 whole s = well-formed (now (s .args .list)) (s .args .at) (s .pre .1) (s .pre .0) _ refl
 
-shared-slice-read-tag : tie.Need-shared-slice-read-tag
-shared-slice-read-tag c = search needs
-
-add-start : tie.Need-add-start
-add-start c = search needs
-
-add-number-at : tie.Need-add-number-at
-add-number-at c = search needs
-
 number-at-requires : tie.Need-number-at-requires
 number-at-requires c κs = let a = c .before .before .before in (lit≤ tt, omega (arith, not-cut-short (now (a .args .list)) (a .args .at) (a .pre .1) (a .pre .0)))
-
-add-t11 : tie.Need-add-t11
-add-t11 c = search needs
 
 returns : tie.Need-returns
 returns c =
@@ -51,12 +39,6 @@ eight c = let a = c .before .before .before .before in number-eight (now (a .arg
 number-at-requires-2 : tie.Need-number-at-requires-2
 number-at-requires-2 c κs = (lit≤ tt, omega (arith, eight c, whole (c .before .before .before .before) .complete .within))
 
-to-signed-requires : tie.Need-to-signed-requires
-to-signed-requires c κs = search needs
-
-add-t16 : tie.Need-add-t16
-add-t16 c = search needs
-
 returns-3 : tie.Need-returns-3
 returns-3 c =
     let a = c .before .before .before .before .before .before .before in
@@ -64,12 +46,6 @@ returns-3 c =
     let b = c .before .before .number-at2 in
     let z : toZ w64 (ofZ w64 (c .to-signed .result)) ≡ signed 8 (b .result) = toZ-ofZ (record { sfits = c .to-signed .ok }) ∙ c .to-signed .ensures in
     rw z (found-by _ _ _ _ (whole a) (integer-value (now (a .args .list)) (a .args .at) _ (whole a) e (b .result) (b .ensures) (c .before .if3 .taken)) _ (omega (arith, e)))
-
-float-of-requires : tie.Need-float-of-requires
-float-of-requires c κs = search needs
-
-add-t18 : tie.Need-add-t18
-add-t18 c = search needs
 
 returns-4 : tie.Need-returns-4
 returns-4 c =
@@ -82,17 +58,17 @@ pub value-at-spec : {M : Type 1} → statement M
 value-at-spec =
     tie.close
     (tie.spec
-    shared-slice-read-tag
-    add-start
-    add-number-at
+    (λ c. search needs)
+    (λ c. search needs)
+    (λ c. search needs)
     number-at-requires
-    add-t11
+    (λ c. search needs)
     returns
     returns-2
     number-at-requires-2
-    to-signed-requires
-    add-t16
+    (λ c κs. search needs)
+    (λ c. search needs)
     returns-3
-    float-of-requires
-    add-t18
+    (λ c κs. search needs)
+    (λ c. search needs)
     returns-4)

@@ -15,29 +15,8 @@ abbrev μ-loop : tie.MeasureT-loop
 here : (c : tie.Start Inv-loop μ-loop) → Inside (c .args .big) (c .args .size) (c .args .at) (c .args .«data» .now)
 here c = record { ends = c .pre }
 
-low-requires : tie.Need-low-requires Inv-loop μ-loop
-low-requires c κs = tt
-
 loop-holds : tie.Need-loop-holds Inv-loop μ-loop
 loop-holds c = gathered-none _ _ _
-
-place-requires : tie.Need-place-requires Inv-loop μ-loop
-place-requires c κs = omega arith
-
-add-b : tie.Need-add-b Inv-loop μ-loop
-add-b c = omega arith
-
-shared-slice-read-b : tie.Need-shared-slice-read-b Inv-loop μ-loop
-shared-slice-read-b c = omega arith
-
-wide-requires : tie.Need-wide-requires Inv-loop μ-loop
-wide-requires c κs = tt
-
-mul-word : tie.Need-mul-word Inv-loop μ-loop
-mul-word c = omega arith
-
-shl-word : tie.Need-shl-word Inv-loop μ-loop
-shl-word c = omega arith
 
 loop-again : tie.Need-loop-again Inv-loop μ-loop
 loop-again c =
@@ -48,12 +27,6 @@ loop-again c =
 add-word : tie.Need-add-word Inv-loop μ-loop
 add-word c = record { fits = gathered-fits (loop-again c) }
 
-add-k : tie.Need-add-k Inv-loop μ-loop
-add-k c = omega arith
-
-loop-less : tie.Need-loop-less Inv-loop μ-loop
-loop-less c = omega arith
-
 returns : tie.Need-returns Inv-loop μ-loop
 returns c = gathered-all (c .before .loop .inv) (omega arith)
 
@@ -63,16 +36,16 @@ get-bytes-spec =
     (tie.spec
     Inv-loop
     μ-loop
-    low-requires
+    (λ c κs. tt)
     loop-holds
-    place-requires
-    add-b
-    shared-slice-read-b
-    wide-requires
-    mul-word
-    shl-word
+    (λ c κs. omega arith)
+    (λ c. omega arith)
+    (λ c. omega arith)
+    (λ c κs. tt)
+    (λ c. omega arith)
+    (λ c. omega arith)
     add-word
-    add-k
-    loop-less
+    (λ c. omega arith)
+    (λ c. omega arith)
     loop-again
     returns)

@@ -10,18 +10,6 @@ use Rattle.coder.proofs.reading.get_signed.Tie as tie
 here : (c : tie.Start) → Inside (c .args .big) (c .args .size) (c .args .at) (c .args .«data» .now)
 here c = record { ends = c .pre }
 
-get-word-requires : tie.Need-get-word-requires
-get-word-requires c κs = search needs
-
-restored-requires : tie.Need-restored-requires
-restored-requires c κs = search needs
-
-sign-byte-requires : tie.Need-sign-byte-requires
-sign-byte-requires c κs = search needs
-
-is-filled-requires : tie.Need-is-filled-requires
-is-filled-requires c κs = search needs
-
 returns : tie.Need-returns
 returns c =
     let r = c .before .before .before .restored in
@@ -36,9 +24,9 @@ pub get-signed-spec : {M : Type 1} → statement M
 get-signed-spec =
     tie.close
     (tie.spec
-    get-word-requires
-    restored-requires
-    sign-byte-requires
-    is-filled-requires
+    (λ c κs. search needs)
+    (λ c κs. search needs)
+    (λ c κs. search needs)
+    (λ c κs. search needs)
     returns
     returns-2)

@@ -18,23 +18,8 @@ here c = record { ends = c .pre }
 loop-holds : tie.Need-loop-holds Inv-loop μ-loop
 loop-holds c = passed-none (here (c .before)) (c .before .args .fill)
 
-place-requires : tie.Need-place-requires Inv-loop μ-loop
-place-requires c κs = omega arith
-
-add-if1 : tie.Need-add-if1 Inv-loop μ-loop
-add-if1 c = omega arith
-
-shared-slice-read-if1 : tie.Need-shared-slice-read-if1 Inv-loop μ-loop
-shared-slice-read-if1 c = omega arith
-
 returns : tie.Need-returns Inv-loop μ-loop
 returns c = passed-other (here (c .before .before .before .before .before .before)) (c .before .before .before .before .loop .inv) (c .before .before .before .loop-test .taken) (c .before .before .place .ensures .0) (c .if1 .taken)
-
-add-k : tie.Need-add-k Inv-loop μ-loop
-add-k c = omega arith
-
-loop-less : tie.Need-loop-less Inv-loop μ-loop
-loop-less c = omega arith
 
 loop-again : tie.Need-loop-again Inv-loop μ-loop
 loop-again c = passed-more (here (c .before .before .before .before .before .before)) (c .before .before .before .before .loop .inv) (c .before .before .before .loop-test .taken) (c .before .before .place .ensures .0) (c .if1 .left)
@@ -49,11 +34,11 @@ is-filled-spec =
     Inv-loop
     μ-loop
     loop-holds
-    place-requires
-    add-if1
-    shared-slice-read-if1
+    (λ c κs. omega arith)
+    (λ c. omega arith)
+    (λ c. omega arith)
     returns
-    add-k
-    loop-less
+    (λ c. omega arith)
+    (λ c. omega arith)
     loop-again
     returns-2)

@@ -14,12 +14,6 @@ use borrow.Author.Needs.{needs, sfits-of}
 use Rattle.coder.proofs.reading.restored.Statement.{statement}
 use Rattle.coder.proofs.reading.restored.Tie as tie
 
-mul-count : tie.Need-mul-count
-mul-count c = search needs
-
-shl-count : tie.Need-shl-count
-shl-count c = search needs
-
 add-wrapping-sub-u64 : tie.Need-add-wrapping-sub-u64
 add-wrapping-sub-u64 c =
     let n = c .before .args .size in
@@ -30,15 +24,6 @@ add-wrapping-sub-u64 c =
 
 rem-wrapping-sub-u64 : tie.Need-rem-wrapping-sub-u64
 rem-wrapping-sub-u64 c = rw (shifted-one (c .before .args .size) (c .if1 .taken)) (pow-pos (c .before .args .size))
-
-wrapping-sub-u64-requires : tie.Need-wrapping-sub-u64-requires
-wrapping-sub-u64-requires c κs = search needs
-
-to-signed-requires : tie.Need-to-signed-requires
-to-signed-requires c κs = search needs
-
-to-signed-requires-2 : tie.Need-to-signed-requires-2
-to-signed-requires-2 c κs = search needs
 
 returns : tie.Need-returns
 returns c =
@@ -57,12 +42,12 @@ pub restored-spec : {M : Type 1} → statement M
 restored-spec =
     tie.close
     (tie.spec
-    mul-count
-    shl-count
+    (λ c. search needs)
+    (λ c. search needs)
     add-wrapping-sub-u64
     rem-wrapping-sub-u64
-    wrapping-sub-u64-requires
-    to-signed-requires
-    to-signed-requires-2
+    (λ c κs. search needs)
+    (λ c κs. search needs)
+    (λ c κs. search needs)
     returns
     returns-2)

@@ -11,18 +11,6 @@ use borrow.Author.Needs.{needs}
 use Rattle.coder.proofs.words.to_signed.Statement.{statement}
 use Rattle.coder.proofs.words.to_signed.Tie as tie
 
-cast-result : tie.Need-cast-result
-cast-result c = search needs
-
-wrapping-sub-u64-requires : tie.Need-wrapping-sub-u64-requires
-wrapping-sub-u64-requires c κs = search needs
-
-sub-n : tie.Need-sub-n
-sub-n c = search needs
-
-cast-result-2 : tie.Need-cast-result-2
-cast-result-2 c = search needs
-
 sub-result : tie.Need-sub-result
 sub-result c =
     let n = c .wrapping-sub-u64 .result - 1 in
@@ -42,10 +30,10 @@ pub to-signed-spec : {M : Type 1} → statement M
 to-signed-spec =
     tie.close
     (tie.spec
-    cast-result
-    wrapping-sub-u64-requires
-    sub-n
-    cast-result-2
+    (λ c. search needs)
+    (λ c κs. search needs)
+    (λ c. search needs)
+    (λ c. search needs)
     sub-result
     returns
     returns-2)

@@ -13,14 +13,8 @@ use Rattle.coder.proofs.words.to_word.Tie as tie
 got : (c : tie.After-extent) → c .extent .result ≡ extent (c .before .args .x)
 got c = c .extent .ensures ∙ ap extent (toZ-ofZ (c .before .fits .x))
 
-extent-requires : tie.Need-extent-requires
-extent-requires c κs = search needs
-
 add-wrapping-sub-u64 : tie.Need-add-wrapping-sub-u64
 add-wrapping-sub-u64 c = omega (arith, got (c .before), extent-fits (c .before .before .args .x) (c .before .before .fits .x))
-
-wrapping-sub-u64-requires : tie.Need-wrapping-sub-u64-requires
-wrapping-sub-u64-requires c κs = search needs
 
 returns : tie.Need-returns
 returns c =
@@ -35,4 +29,4 @@ returns-2 c = got (c .before) ∙ sym (ap bits (positive (c .before .before .arg
 pub to-word-spec : {M : Type 1} → statement M
 to-word-spec =
     tie.close
-    (tie.spec extent-requires add-wrapping-sub-u64 wrapping-sub-u64-requires returns returns-2)
+    (tie.spec (λ c κs. search needs) add-wrapping-sub-u64 (λ c κs. search needs) returns returns-2)

@@ -21,23 +21,8 @@ room c = record { fits = c .pre; whole = length-laid (c .args .big) (c .args .si
 loop-holds : tie.Need-loop-holds Inv-loop μ-loop
 loop-holds c = pasted-none (room (c .before))
 
-place-requires : tie.Need-place-requires Inv-loop μ-loop
-place-requires c κs = omega arith
-
-byte-of-requires : tie.Need-byte-of-requires Inv-loop μ-loop
-byte-of-requires c κs = tt
-
-add-out : tie.Need-add-out Inv-loop μ-loop
-add-out c = omega arith
-
 slice-write-out : tie.Need-slice-write-out Inv-loop μ-loop
 slice-write-out c = omega (arith, pasted-length (room (c .before .before .before .before .before)) (c .before .before .before .loop .inv))
-
-add-j : tie.Need-add-j Inv-loop μ-loop
-add-j c = omega arith
-
-loop-less : tie.Need-loop-less Inv-loop μ-loop
-loop-less c = omega arith
 
 loop-again : tie.Need-loop-again Inv-loop μ-loop
 loop-again c =
@@ -59,12 +44,12 @@ put-bytes-spec =
     Inv-loop
     μ-loop
     loop-holds
-    place-requires
-    byte-of-requires
-    add-out
+    (λ c κs. omega arith)
+    (λ c κs. tt)
+    (λ c. omega arith)
     slice-write-out
-    add-j
-    loop-less
+    (λ c. omega arith)
+    (λ c. omega arith)
     loop-again
     same-length
     returns)

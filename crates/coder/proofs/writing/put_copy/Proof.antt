@@ -20,23 +20,8 @@ room c = record { fits = c .pre .0; whole = length-part (c .args .n) (c .args .s
 loop-holds : tie.Need-loop-holds Inv-loop μ-loop
 loop-holds c = pasted-none (room c)
 
-add-out : tie.Need-add-out Inv-loop μ-loop
-add-out c = omega arith
-
-shared-slice-read-out : tie.Need-shared-slice-read-out Inv-loop μ-loop
-shared-slice-read-out c = omega arith
-
-add-out-2 : tie.Need-add-out-2 Inv-loop μ-loop
-add-out-2 c = omega arith
-
 slice-write-out : tie.Need-slice-write-out Inv-loop μ-loop
 slice-write-out c = omega (arith, pasted-length (room (c .before .before .before)) (c .before .before .loop .inv))
-
-add-j : tie.Need-add-j Inv-loop μ-loop
-add-j c = omega arith
-
-loop-less : tie.Need-loop-less Inv-loop μ-loop
-loop-less c = omega arith
 
 loop-again : tie.Need-loop-again Inv-loop μ-loop
 loop-again c =
@@ -57,12 +42,12 @@ put-copy-spec =
     Inv-loop
     μ-loop
     loop-holds
-    add-out
-    shared-slice-read-out
-    add-out-2
+    (λ c. omega arith)
+    (λ c. omega arith)
+    (λ c. omega arith)
     slice-write-out
-    add-j
-    loop-less
+    (λ c. omega arith)
+    (λ c. omega arith)
     loop-again
     same-length
     returns)

@@ -19,17 +19,8 @@ room c = record { fits = c .pre; whole = length-replicate (c .args .n) 0 }
 loop-holds : tie.Need-loop-holds Inv-loop μ-loop
 loop-holds c = pasted-none (room c)
 
-add-out : tie.Need-add-out Inv-loop μ-loop
-add-out c = omega arith
-
 slice-write-out : tie.Need-slice-write-out Inv-loop μ-loop
 slice-write-out c = omega (arith, pasted-length (room (c .before .before)) (c .before .loop .inv))
-
-add-j : tie.Need-add-j Inv-loop μ-loop
-add-j c = omega arith
-
-loop-less : tie.Need-loop-less Inv-loop μ-loop
-loop-less c = omega arith
 
 loop-again : tie.Need-loop-again Inv-loop μ-loop
 loop-again c =
@@ -49,10 +40,10 @@ put-zeros-spec =
     Inv-loop
     μ-loop
     loop-holds
-    add-out
+    (λ c. omega arith)
     slice-write-out
-    add-j
-    loop-less
+    (λ c. omega arith)
+    (λ c. omega arith)
     loop-again
     same-length
     returns)

@@ -1,4 +1,4 @@
--- `bytes` is safe and ends: every digit lies inside the line. The loop's invariant is the length.
+-- `bytes` keeps its length, and each turn leaves one byte fewer.
 use Prim.Native.Nat.{_-_}
 use mathlib.Core.Path.{_≡_, refl, _∙_}
 use native.Mathlib.Omega.{arith}
@@ -12,30 +12,6 @@ Inv-loop line out₀ k₀ out k = 16 ≡ length out
 abbrev μ-loop : tie.MeasureT-loop
 μ-loop line out₀ k₀ out k = 16 - k
 
-loop-holds : tie.Need-loop-holds Inv-loop μ-loop
-loop-holds c = refl
-
-mul-number : tie.Need-mul-number Inv-loop μ-loop
-mul-number c = omega arith
-
-add-number : tie.Need-add-number Inv-loop μ-loop
-add-number c = omega arith
-
-number-requires : tie.Need-number-requires Inv-loop μ-loop
-number-requires c κs = omega arith
-
-cast-out : tie.Need-cast-out Inv-loop μ-loop
-cast-out c = omega arith
-
-array-write-out : tie.Need-array-write-out Inv-loop μ-loop
-array-write-out c = omega arith
-
-add-k : tie.Need-add-k Inv-loop μ-loop
-add-k c = omega arith
-
-loop-less : tie.Need-loop-less Inv-loop μ-loop
-loop-less c = omega arith
-
 loop-again : tie.Need-loop-again Inv-loop μ-loop
 loop-again c = c .before .before .loop .inv ∙ simp length-set
 
@@ -48,13 +24,15 @@ bytes-spec =
     (tie.spec
     Inv-loop
     μ-loop
-    loop-holds
-    mul-number
-    add-number
-    number-requires
-    cast-out
-    array-write-out
-    add-k
-    loop-less
+    (λ c. refl)
+    (λ c. omega arith)
+    (λ c. omega arith)
+    (λ c. omega arith)
+    (λ c. omega arith)
+    (λ c κs. tt)
+    (λ c. omega arith)
+    (λ c. omega arith)
+    (λ c. omega arith)
+    (λ c. omega arith)
     loop-again
     returns)
