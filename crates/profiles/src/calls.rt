@@ -16,7 +16,7 @@ use notation::room;
 use notation::size;
 use notation::unpack;
 use write::pack_continued;
-use write::pass::Total;
+use write::Total;
 
 // What every byte of a result buffer is before a call.
 pub const FILL: u8 = 238;
