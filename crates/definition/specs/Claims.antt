@@ -10,7 +10,9 @@ use lib.IntN.{ℤ, pos}
 use lib.ListN.{length, take, drop}
 use Rattle.definition.specs.Answers.{Checked, refused, accepted, _>>=_}
 use Rattle.definition.specs.Items.{Item, items, texts}
-use Rattle.definition.specs.Ops.{opOf}
+use Rattle.definition.specs.Refusals.{refusals, among}
+use Rattle.definition.specs.Options.{options}
+use Rattle.definition.specs.Ops.{ops}
 use Rattle.definition.specs.Values.{Value, asInteger}
 use Rattle.definition.specs.Lists.{listOf, fieldsAfter}
 use Rattle.definition.specs.States.{start}
@@ -21,7 +23,6 @@ use Rattle.definition.specs.Calls.{Call, call, stringPacksize, listBound
 use Rattle.definition.specs.declared.State.{State}
 use Rattle.definition.specs.declared.Field.{Field}
 use Rattle.definition.specs.declared.Field.the-variants.{Number, Chars, ZeroEnded, Counted}
-use Rattle.definition.specs.declared.Kind.{Kind}
 use Rattle.definition.specs.declared.Kind.the-variants.{SmallSigned, SmallUnsigned, Signed, Unsigned, LuaInteger, LuaUnsigned, Size, Single, Double}
 use Rattle.definition.specs.declared.Op.{Op}
 use Rattle.definition.specs.declared.Op.the-variants.{Blank, Set, Pad, Put}
@@ -85,9 +86,9 @@ isOpen ZeroEnded = true
 isOpen (Counted n) = true
 
 -- "F has z or s"
-abbrev pub hasOpen : List Item → Bool
+abbrev pub hasOpen : List (Checked Op) → Bool
 hasOpen [] = false
-hasOpen (i ∷ is) = ofField isOpen false (opOf i) || hasOpen is
+hasOpen (i ∷ is) = ofField isOpen false i || hasOpen is
 
 abbrev pub isShort : Field → Bool
 isShort (Number k n) = true
@@ -97,7 +98,7 @@ isShort (Counted n) = true
 
 -- "no c numeral is above 65,535"
 abbrev pub ShortChars : List ℕ → Type 0
-ShortChars f = All (λ i. T (ofField isShort true (opOf i))) (items f)
+ShortChars f = All (λ i. T (ofField isShort true i)) (ops options f)
 
 abbrev pub isSome : {A : Type 0} → Option A → Bool
 isSome none = false
@@ -128,7 +129,7 @@ pub record Agreement (f l b : List ℕ) : Type 0 where
   -- "Writing accepts F with some values and gives B."
   pub wrote : stringPack f l b ≡ gives (length (packedBytes f l)) (packedBytes f l) b
   -- "Then packsize gives B's length if F has no z or s, and 10 if it has."
-  pub size : stringPacksize f ≡ cond (hasOpen (items f)) (refused 10) (accepted (length (packedBytes f l)))
+  pub size : stringPacksize f ≡ cond (hasOpen (ops options f)) (refused 10) (accepted (length (packedBytes f l)))
   -- "If also no c numeral is above 65,535 and J took integers only: in any data of at most 2^63-1 bytes holding B at an offset that is a multiple of 16, whichever bytes replace B's padding, reading F there gives exactly document 01's kept values and the position just after B"
   pub back : ShortChars f → IntegersForJ f l → (front held rest b : List ℕ) → length front % 16 ≡ 0 → Holds (written f l .cells) held → length (front ++ (held ++ rest)) ≤ 2 ^ 63 - 1
       → LongEnough (stringUnpack f (front ++ (held ++ rest)) (pos (length front + 1)) b .answer)
@@ -147,7 +148,7 @@ joined (x ∷ xs) = x ++ joined xs
 -- "every list of parts into which cuts between items divide the format": each part is the text of a group of f's items
 pub record Divides (f : List ℕ) (ps : List (List ℕ)) : Type 0 where
   pub groups : List (List Item)
-  pub whole : items f ≡ joined groups
+  pub whole : items options f ≡ joined groups
   pub parts : ps ≡ map texts groups
 
 -- "the bytes, last state and counts" of one call or of several
@@ -192,9 +193,9 @@ pub record Room {A : Type 0} (c : List ℕ → Call A) : Type 0 where
   -- a call that gives 22 has a result s longer than the buffer, and is accepted with every buffer at least as long as s
   pub longer : (b : List ℕ) → c b .answer ≡ refused 22 → (a : A) × (s : List ℕ) × (length b < length s) × ((d : List ℕ) → length s ≤ length d → c d ≡ gives a s d)
 
--- ---- "A refusal returns its number only": a number of the list, 1 to 22, so that a caller may take 0 for "accepted"
+-- ---- "A refusal returns its number only": a number of the list, in which 0 is not, so that a caller may take 0 for "accepted"
 abbrev pub Numbered : {A : Type 0} → Checked A → Type 0
-Numbered c = (k : ℕ) → c ≡ refused k → (1 ≤ k) × (k ≤ 22)
+Numbered c = (k : ℕ) → c ≡ refused k → T (among refusals k)
 
 -- ---- "an accepted reading's list is at most this long": the bound is accepted, or 9
 abbrev pub Bounded : List ℕ → List ℕ → ℤ → List ℕ → Type 0

@@ -9,17 +9,12 @@ use lib.Dec.{ltb, eqb}
 use lib.ListN.{length, getD, drop}
 use borrow.Author.Tests.{lt-ltb, le-ltb, ltb-true, ltb-false, ne-eqb}
 use Rattle.definition.specs.Answers.{Checked, refused, accepted, _>>_, require}
-use Rattle.definition.specs.Options.{entry, entryOf}
-use Rattle.definition.specs.Items.{digits, isNumber, behindX, nextByte, numeralOf}
+use Rattle.definition.specs.Options.{entry, entryOf, Class, Number, Blank, Order, ZeroEnded, Fill, Nothing, Digits, Entry}
+use Rattle.definition.specs.Items.{digits, isNumber, behindX, nextByte, numeralOf, Numeral}
 use Rattle.definition.specs.Ops.{within16, sizeOr, naturalBy}
-use Rattle.definition.specs.declared.Class.{Class}
-use Rattle.definition.specs.declared.Class.the-variants.{Number, Blank, Order, ZeroEnded, Fill}
 use Rattle.definition.specs.declared.Kind.{Kind}
 use Rattle.definition.specs.declared.Kind.the-variants.{Signed, Unsigned}
-use Rattle.definition.specs.declared.NumeralRule.the-variants.{Nothing, Digits}
-use Rattle.definition.specs.declared.Entry.{Entry}
-use Rattle.definition.specs.declared.Numeral.{Numeral}
-use Rattle.definition.specs.declared.Numeral.the-variants as Numeral
+use Rattle.definition.specs.Items as Numeral
 use Rattle.format.specs.Packed.{sizeAt, plainAt, entryAt}
 use Rattle.format.specs.Operands.{sizeBy, taking, operandAt, naturalAt, oneMore}
 use Rattle.format.proofs.Table.{does, OwnSize, size-rule}

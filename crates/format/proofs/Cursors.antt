@@ -9,16 +9,10 @@ use lib.Dec.{ltb, eqb}
 use lib.ListN.{length, getD, drop, drop-of-length-le}
 use borrow.Author.Tests.{ltb-true, ltb-false}
 use Rattle.definition.specs.Answers.{Checked, refused, accepted, _>>=_}
-use Rattle.definition.specs.Options.{entryOf}
-use Rattle.definition.specs.Items.{taken, takenBy, numeralOf}
+use Rattle.definition.specs.Options.{entryOf, Class, NumeralRule, Nothing, Digits, DigitsBehindX, NextByte, Entry}
+use Rattle.definition.specs.Items.{taken, takenBy, numeralOf, Numeral, Missing, TooLarge, Value}
 use Rattle.definition.specs.Ops.{opBy, opWith, opOf}
-use Rattle.definition.specs.declared.Class.{Class}
-use Rattle.definition.specs.declared.Class.the-variants as Class
-use Rattle.definition.specs.declared.NumeralRule.{NumeralRule}
-use Rattle.definition.specs.declared.NumeralRule.the-variants.{Nothing, Digits, DigitsBehindX, NextByte}
-use Rattle.definition.specs.declared.Entry.{Entry}
-use Rattle.definition.specs.declared.Numeral.{Numeral}
-use Rattle.definition.specs.declared.Numeral.the-variants.{Missing, TooLarge, Value}
+use Rattle.definition.specs.Options as Class
 use Rattle.definition.specs.declared.Op.{Op}
 use Rattle.definition.specs.declared.Op.the-variants as Op
 use Rattle.format.specs.Packed.{plainAt, entryAt}

@@ -8,9 +8,8 @@ use lib.Dec.{ltb}
 use lib.ListN.{length}
 use borrow.Author.Tests.{ltb-true, ltb-false}
 use Rattle.definition.specs.Answers.{Checked, refused}
-use Rattle.definition.specs.Items.{digits, value, numeralOf}
-use Rattle.definition.specs.declared.Numeral.{Numeral}
-use Rattle.definition.specs.declared.Numeral.the-variants as Numeral
+use Rattle.definition.specs.Items.{digits, value, numeralOf, Numeral}
+use Rattle.definition.specs.Items as Numeral
 use Rattle.format.specs.Packed.{entryAt}
 use Rattle.numeral.specs.Numerals.{scanned}
 use Rattle.format.specs.Operands.{operandBy, taking, operandAt}

@@ -10,12 +10,9 @@ use lib.ListN.{length, take, drop, length-drop}
 use lib.Seq.{take-all}
 use borrow.Author.Tests.{ltb-true, ltb-false}
 use Rattle.definition.specs.Answers.{Checked, refused, accepted}
-use Rattle.definition.specs.Options.{entry}
+use Rattle.definition.specs.Options.{entry, Nothing, DigitsBehindX, Number, Entry}
 use Rattle.definition.specs.Items.{takenBy}
-use Rattle.definition.specs.declared.NumeralRule.the-variants.{Nothing, DigitsBehindX}
-use Rattle.definition.specs.declared.Class.the-variants.{Number}
-use Rattle.definition.specs.declared.Entry.{Entry}
-use Rattle.definition.specs.declared.Numeral.the-variants as Numeral
+use Rattle.definition.specs.Items as Numeral
 use Rattle.format.specs.Packed.{kindAt, sizeAt, plainAt, entryAt}
 use Rattle.format.specs.Operands.{operandBy, operandWith, taking, operandAt, naturalAt, operandOf, roomFor1}
 use Rattle.format.specs.declared.operand.Operand.{Operand}

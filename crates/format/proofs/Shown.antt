@@ -8,10 +8,9 @@ use lib.Dec.{leb, ltb, eqb}
 use lib.ListN.{length}
 use borrow.Author.Tests.{lt-ltb, le-leb, leb-true, leb-false, ltb-true, ltb-false, eqb-false}
 use Rattle.definition.specs.Answers.{accepted}
-use Rattle.definition.specs.Items.{isDigit, digits, value, numeralOf}
+use Rattle.definition.specs.Items.{isDigit, digits, value, numeralOf, Numeral}
 use Rattle.definition.specs.Ops.{isPower}
-use Rattle.definition.specs.declared.Numeral.{Numeral}
-use Rattle.definition.specs.declared.Numeral.the-variants as Numeral
+use Rattle.definition.specs.Items as Numeral
 use Rattle.numeral.specs.Numerals.{shortOf}
 use Rattle.numeral.specs.declared.Short.{Short}
 use Rattle.numeral.specs.declared.Short.the-variants as Short

@@ -4,11 +4,9 @@ use mathlib.Core.Path.{_≡_, refl, sym, ap, _∙_}
 use mathlib.Core.List.{List}
 use lib.ListN.{getD}
 use Rattle.definition.specs.Answers.{Checked, accepted, _>>=_}
-use Rattle.definition.specs.Options.{options, entryOf}
+use Rattle.definition.specs.Options.{options, entryOf, Class, Entry}
 use Rattle.definition.specs.Ops.{opBy}
-use Rattle.definition.specs.declared.Class.{Class}
-use Rattle.definition.specs.declared.Entry.{Entry}
-use Rattle.definition.specs.declared.Numeral.the-variants.{Missing}
+use Rattle.definition.specs.Items.{Missing}
 use Rattle.definition.specs.declared.Op.{Op}
 use Rattle.format.specs.Packed.{packed, kindAt, plainAt, entryAt}
 use Rattle.format.specs.Operands.{operandBy, opFor}

@@ -4,10 +4,8 @@ use mathlib.Core.Bool.{Bool, true, false, _&&_, cond}
 use mathlib.Core.List.{List, [], _∷_}
 use native.Mathlib.Omega.{arith}
 use lib.ListN.{length}
-use Rattle.definition.specs.Options.{entryOf}
+use Rattle.definition.specs.Options.{entryOf, NumeralRule, Nothing, Digits, DigitsBehindX, NextByte}
 use Rattle.definition.specs.Items.{isDigit, digits, isNumber, behindX, nextByte, takenBy}
-use Rattle.definition.specs.declared.NumeralRule.{NumeralRule}
-use Rattle.definition.specs.declared.NumeralRule.the-variants.{Nothing, Digits, DigitsBehindX, NextByte}
 
 digits-length : (s : List ℕ) → length (digits s) ≤ length s
 unfolding digits

@@ -5,15 +5,10 @@ use mathlib.Core.List.{List}
 use lib.Dec.{ltb, leb}
 use lib.ListN.{length, drop}
 use Rattle.definition.specs.Answers.{Checked, refused, accepted, _>>=_}
-use Rattle.definition.specs.Items.{digits, takenBy, nextByte, numeralOf}
+use Rattle.definition.specs.Items.{digits, takenBy, nextByte, numeralOf, Numeral, Missing, TooLarge, Value}
 use Rattle.definition.specs.Ops.{sizeOr, limitOr, needed, naturalOf}
-use Rattle.definition.specs.declared.Class.{Class}
-use Rattle.definition.specs.declared.Class.the-variants as Class
-use Rattle.definition.specs.declared.NumeralRule.{NumeralRule}
-use Rattle.definition.specs.declared.NumeralRule.the-variants.{Nothing, Digits, DigitsBehindX, NextByte}
-use Rattle.definition.specs.declared.Entry.{Entry}
-use Rattle.definition.specs.declared.Numeral.{Numeral}
-use Rattle.definition.specs.declared.Numeral.the-variants.{Missing, TooLarge, Value}
+use Rattle.definition.specs.Options.{Class, NumeralRule, Nothing, Digits, DigitsBehindX, NextByte, Entry}
+use Rattle.definition.specs.Options as Class
 use Rattle.definition.specs.declared.Op.{Op}
 use Rattle.definition.specs.declared.Op.the-variants as Op
 use Rattle.definition.specs.declared.Field.the-variants as Field

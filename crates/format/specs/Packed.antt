@@ -3,13 +3,9 @@ use Prim.Native.Nat.{ℕ, _/_, _%_}
 use mathlib.Core.Bool.{true, false, cond}
 use mathlib.Core.List.{List, [], _∷_}
 use lib.Dec.{ltb, eqb}
-use Rattle.definition.specs.Options.{entry}
-use Rattle.definition.specs.declared.Class.{Class}
-use Rattle.definition.specs.declared.Class.the-variants.{NoOption, Blank, Order, Limit, Number, Chars, ZeroEnded, Counted, Fill, Align}
+use Rattle.definition.specs.Options.{entry, Class, NoOption, Blank, Order, Limit, Number, Chars, ZeroEnded, Counted, Fill, Align, Nothing, Digits, DigitsBehindX, NextByte, Entry}
 use Rattle.definition.specs.declared.Kind.{Kind}
 use Rattle.definition.specs.declared.Kind.the-variants.{SmallSigned, SmallUnsigned, Signed, Unsigned, LuaInteger, LuaUnsigned, Size, Single, Double}
-use Rattle.definition.specs.declared.NumeralRule.the-variants.{Nothing, Digits, DigitsBehindX, NextByte}
-use Rattle.definition.specs.declared.Entry.{Entry}
 
 -- the table, as the code has it
 unfoldable pub packed : List ℕ

@@ -19,7 +19,7 @@ ghost use mathlib.Core.Path.{_≡_};
 ghost use Prim.Native.Nat.{_≤_, _<_};
 ghost use lib.ListN.{length, drop};
 ghost use Rattle.definition.specs.Ops.{sizeOr, limitOr};
-ghost use Rattle.definition.specs.declared.Numeral.the-variants.{Missing, Value};
+ghost use Rattle.definition.specs.Items.{Missing, Value};
 ghost use Rattle.format.specs.Packed.{packed, entryAt};
 ghost use Rattle.format.specs.Operands.{operandBy, taking, operandAt, naturalAt, oneMore, shownAt, operandOf, roomFor1, behindOf, numeralBehind};
 
