@@ -1,7 +1,7 @@
 -- Each checked item has a size that its option has, by one test over the option table.
 use Prim.Native.Nat.{ℕ}
 use mathlib.Core.Path.{_≡_, refl, sym, subst}
-use mathlib.Core.Bool.{Bool, true, false, _||_, cond}
+use mathlib.Core.Bool.{Bool, true, false, _&&_, _||_, cond}
 use mathlib.Core.List.{List, [], _∷_, map}
 use lib.Dec.{T, leb, eqb, eqb→eq}
 use Rattle.definition.specs.Answers.{Checked, accepted, _>>_, require}
@@ -35,6 +35,10 @@ power-cases P p1 p2 p4 p8 p16 a = or 1 _ p1 (or 2 _ p2 (or 4 _ p4 (or 8 _ p8 (is
         go true e h = is k p e
         go false e h = f h
 
+pub and-parts : (a b : Bool) → T (a && b) → T a × T b
+and-parts true b h = (tt, h)
+and-parts false b h = absurd h
+
 abbrev pub validSetting : Setting → Bool
 validSetting (Setting.Order o) = true
 validSetting (Setting.Limit n) = isPower n
@@ -57,26 +61,26 @@ anySize Size = false
 anySize Single = false
 anySize Double = false
 
--- a number option has its own size, or takes a numeral and has any
+-- a number option has its own size, or takes a numeral and has any; the size without a numeral is one of 1 to 16
 abbrev sizesOk : NumeralRule → Kind → ℕ → Bool
 sizesOk Nothing k n = validSize k n
 sizesOk Digits k n = anySize k
 sizesOk DigitsBehindX k n = validSize k n
 sizesOk NextByte k n = true
 
-abbrev entryOk : Class → NumeralRule → ℕ → Bool
+abbrev pub entryOk : Class → NumeralRule → ℕ → Bool
 entryOk Class.NoOption r n = true
 entryOk Class.Blank r n = true
 entryOk (Class.Order o) r n = true
 entryOk Class.Limit r n = true
-entryOk (Class.Number k) r n = sizesOk r k n
+entryOk (Class.Number k) r n = within16 n && sizesOk r k n
 entryOk Class.Chars r n = true
 entryOk Class.ZeroEnded r n = true
-entryOk Class.Counted r n = true
+entryOk Class.Counted r n = within16 n
 entryOk Class.Fill r n = true
 entryOk Class.Align r n = true
 
-abbrev ok : Entry → Bool
+abbrev pub ok : Entry → Bool
 ok e = entryOk (e .class) (e .rule) (e .size)
 
 abbrev every : (Entry → Bool) → List (ℕ × Entry) → Bool
@@ -156,13 +160,13 @@ missing-size d n e = same (passed (within16 d) 3 (accepted d) e .1)
 
 own-size : (c : Class) (r : NumeralRule) (d : ℕ) → ((k : Kind) → T (sizesOk r k d) → T (validSize k d)) → T (entryOk c r d) → SizeOk c d Missing
 own-size c r d f h k e n s =
-    let g : T (sizesOk r k d) = subst (λ (x : Class). T (entryOk x r d)) e h in
+    let g : T (sizesOk r k d) = and-parts (within16 d) (sizesOk r k d) (subst (λ (x : Class). T (entryOk x r d)) e h) .1 in
     subst (λ (x : ℕ). T (validSize k x)) (missing-size d n s) (f k g)
 
 by-rule : (t : Table) (r : NumeralRule) (e : Entry) (s : List ℕ) (o : Op) → T (entryOk (e .class) r (e .size)) → opWith t r e s ≡ accepted o → T (validOp o)
 by-rule t Nothing e s o h i = by-class (e .class) (e .size) Missing o (own-size (e .class) Nothing (e .size) (λ k g. g) h) i
 by-rule t Digits e s o h i =
-    by-class (e .class) (e .size) (numeralOf s) o (λ k c n m. any-size k n (subst (λ (x : Class). T (entryOk x Digits (e .size))) c h) (size-within (e .size) (numeralOf s) n m)) i
+    by-class (e .class) (e .size) (numeralOf s) o (λ k c n m. any-size k n (and-parts (within16 (e .size)) (anySize k) (subst (λ (x : Class). T (entryOk x Digits (e .size))) c h) .1) (size-within (e .size) (numeralOf s) n m)) i
 by-rule t DigitsBehindX e s o h i = by-class (e .class) (e .size) Missing o (own-size (e .class) DigitsBehindX (e .size) (λ k g. g) h) i
 by-rule t NextByte e s o h i = subst Good (same (bound (naturalOf t s) (λ n. accepted (Op.Pad n 0)) i .rest)) tt
 
