@@ -54,6 +54,7 @@ BOXES = [
     ("host", 846, 146, 114, 68, "C", ["header, example"]),
     ("host", 846, 236, 114, 68, "Rust", ["crate, and a", "pack.rs for lua-rs"]),
     ("host", 846, 326, 114, 68, "Lua", ["module"]),
+    ("proved", 366, 60, 190, 58, "agreement", ["the claims, as contracts;", "over measure, write, read"]),
     ("proved", 696, 60, 110, 58, "line", ["the line printed"]),
     ("proved", 846, 60, 114, 58, "packsize", ["the program"]),
     ("leaf", 186, 452, 118, 104, "align", ["padding, limits,", "lengths; for", "format, measure,", "plan, fetch, write"]),

@@ -6,7 +6,6 @@ use mathlib.Core.List.{List, [], _∷_, _++_, map-append}
 use mathlib.Core.Logic.{_⊎_, inl, inr}
 use native.Mathlib.Omega.{arith}
 use lib.Dec.{leb, eqb}
-use lib.IntN.{ℤ}
 use lib.ListN.{length, take, drop, length-drop}
 use lib.Seq.{length-take-le}
 use borrow.Author.Tests.{leb-true}
@@ -197,7 +196,7 @@ within-item d r i t a is w vs e ih h s l =
 run-within : (d : ℕ) (r : Place ℕ) (is : List (Checked Op)) (t : Place ℕ) (vs : List Read) → reading r is ≡ accepted (t, vs) → Within d r is t vs
 run-within d = by-steps readOp [] _++_ (Within d) (within-none d) (within-item d)
 
-pub bounded : (f d : List ℕ) (p : ℤ) (b : List ℕ) → Bounded f d p b
+pub bounded : Bounded
 unfolding stringUnpack unpack read listBound List-bound.bound
 bounded f d p b u e =
     let i = into-accepted b (unpack f d p >>= λ r. accepted (unpackedOf r, listRead (r .0))) u e in

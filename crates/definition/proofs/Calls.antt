@@ -18,7 +18,7 @@ use Rattle.definition.specs.Lists.{front, values, fieldsAfter}
 use Rattle.definition.specs.States.{start, set}
 use Rattle.definition.specs.Writing.{zeroed, Output, nothing, _⊕_, Place, place, writeOp, writing, write}
 use Rattle.definition.specs.Calls.{Call, call, into, atMost63, pack, recordOf, continuedOf, packContinued, stringPack, unpack, unpackedOf, listRead, stringUnpack}
-use Rattle.definition.specs.Claims.{All, LongEnough, gives, Total, totalOf, Room, Returned}
+use Rattle.definition.specs.Claims.{All, LongEnough, gives, Total, totalOf, Room, Rooms, Returned}
 use Rattle.definition.specs.declared.State.{State}
 use Rattle.definition.specs.declared.Setting.{Setting}
 use Rattle.definition.specs.declared.Setting.the-variants as Setting
@@ -197,20 +197,23 @@ refused-bind (accepted a) g k e = absurd (never (sym e))
 room-of : {A B : Type 0} (c : Checked A) (g : A → B × List ℕ) → ByCall c → Room (λ b. into b (c >>= λ a. accepted (g a)))
 room-of c g h = into-room (c >>= λ a. accepted (g a)) (λ e. refuses-not _ 22 c (λ x. x) h (refused-bind c g 22 e))
 
-pub pack-room : (f l : List ℕ) → Room (stringPack f l)
+pack-room : (f l : List ℕ) → Room (stringPack f l)
 unfolding stringPack
 pack-room f l = room-of (pack start f l) (λ r. (length (r .1 .cells), recordOf (r .1))) (low-pack start f l)
 
-pub continued-room : (s : State) (f l : List ℕ) → Room (packContinued s f l)
+continued-room : (s : State) (f l : List ℕ) → Room (packContinued s f l)
 unfolding packContinued
 continued-room s f l = room-of (pack s f l) (λ r. (continuedOf r, recordOf (r .1))) (low-pack s f l)
 
-pub unpack-room : (f d : List ℕ) (p : ℤ) → Room (stringUnpack f d p)
+unpack-room : (f d : List ℕ) (p : ℤ) → Room (stringUnpack f d p)
 unfolding stringUnpack
 unpack-room f d p = room-of (unpack f d p) (λ r. (unpackedOf r, listRead (r .0))) (low-unpack f d p)
 
+pub rooms : Rooms
+rooms = record { packs = pack-room; continues = continued-room; reads = unpack-room }
+
 -- ---- what continued writing returned is never refused by 21
-pub returned : (s : State) (f l b : List ℕ) → Returned s f l b
+pub returned : Returned
 unfolding packContinued
 returned s f l b a e g c r =
     let i = into-accepted b (pack s f l >>= λ r. accepted (continuedOf r, recordOf (r .1))) a e in

@@ -2,25 +2,25 @@
 use Prim.Native.Nat.{ℕ, _+_}
 use native.Mathlib.Nat.{zero-add, add-zero, add-assoc}
 use mathlib.Core.Path.{_≡_, refl, sym, ap, _∙_}
-use mathlib.Core.Bool.{Bool, true, false, cond}
+use mathlib.Core.Bool.{Bool, true, false, _&&_, cond}
 use mathlib.Core.List.{List, [], _∷_, map, append-assoc, append-nil}
 use lib.Dec.{leb}
 use lib.ListN.{length, take, length-append}
 use Rattle.definition.specs.Answers.{Checked, refused, accepted, _>>=_, after}
 use Rattle.definition.specs.Options.{options}
-use Rattle.definition.specs.Ops.{ops}
+use Rattle.definition.specs.Ops.{ops, isPower}
 use Rattle.definition.specs.Values.{Value}
 use Rattle.definition.specs.Lists.{values, fieldsAfter}
 use Rattle.definition.specs.States.{start}
 use Rattle.definition.specs.Writing.{zeroed, Output, nothing, _⊕_, Place, place, writeOp, write}
 use Rattle.definition.specs.declared.Continued.{Continued}
-use Rattle.definition.specs.Calls.{Call, call, into, pack, recordOf, continuedOf, packContinued, stringPack}
-use Rattle.definition.specs.Claims.{LongEnough, gives, Divides, Total, totalOf, joinedTo, inTurn, Cuts}
+use Rattle.definition.specs.Calls.{Call, call, into, atMost63, pack, recordOf, continuedOf, packContinued, stringPack}
+use Rattle.definition.specs.Claims.{LongEnough, gives, Divides, Total, totalOf, joinedTo, inTurn}
 use Rattle.definition.specs.declared.State.{State}
 use Rattle.definition.proofs.Answers.{never}
 use Rattle.definition.proofs.Cells.{map-append}
 use Rattle.definition.proofs.Parts.{runs, cut-anywhere}
-use Rattle.definition.proofs.Calls.{Sound, start-sound, pack-run, Packed, next-sound, next-values, totalOfRun, total-long}
+use Rattle.definition.proofs.Calls.{Sound, pack-run, Packed, next-sound, next-values, totalOfRun, total-long}
 
 -- ---- outputs, joined
 pub nothing-left : (o : Output) → nothing ⊕ o ≡ o
@@ -69,14 +69,18 @@ parts-total (p ∷ ps) s l vs h e = rw (pack-run s p l vs h e) (go (write option
         last (refused k) = refl
         last (accepted q) = ap accepted (join (r .0) (q .0) (r .1) (q .1))
 
--- one call is the parts' calls, for every list: a malformed one is refused by both
-total-parts : (s : State) (f l p : List ℕ) (ps : List (List ℕ)) → Divides f (p ∷ ps) → Sound s → total s f l ≡ totals s l (p ∷ ps)
+-- one call is the parts' calls, for every state and list: one that 21 refuses is refused by both
+total-parts : (s : State) (f l p : List ℕ) (ps : List (List ℕ)) → Divides f (p ∷ ps) → total s f l ≡ totals s l (p ∷ ps)
 unfolding pack
-total-parts s f l p ps d h = go (values l) refl
+total-parts s f l p ps d = state (isPower (s .limit) && atMost63 (s .length)) refl
   where
-    go : (c : Checked (List Value)) → values l ≡ c → total s f l ≡ totals s l (p ∷ ps)
-    go (accepted vs) e = ap (λ (c : Checked (Place Value × Output)). c >>= λ r. accepted (totalOfRun r)) (pack-run s f l vs h e ∙ cut-anywhere writeOp nothing _⊕_ nothing-left join-assoc (place s vs) f (p ∷ ps) d) ∙ parts-total (p ∷ ps) s l vs h e
-    go (refused k) e = rw (h, e)
+    list : (c : Checked (List Value)) → Sound s → values l ≡ c → total s f l ≡ totals s l (p ∷ ps)
+    list (accepted vs) h e = ap (λ (c : Checked (Place Value × Output)). c >>= λ r. accepted (totalOfRun r)) (pack-run s f l vs h e ∙ cut-anywhere writeOp nothing _⊕_ nothing-left join-assoc (place s vs) f (p ∷ ps) d) ∙ parts-total (p ∷ ps) s l vs h e
+    list (refused k) h e = rw (h, e)
+
+    state : (t : Bool) → (isPower (s .limit) && atMost63 (s .length)) ≡ t → total s f l ≡ totals s l (p ∷ ps)
+    state true h = list (values l) h refl
+    state false h = rw h
 
 -- ---- with buffers that are long enough
 
@@ -118,8 +122,6 @@ plain-is f l b = go (pack start f l)
         room true = refl
         room false = refl
 
-pub cuts : (f l b : List ℕ) (p : List ℕ × List ℕ) (ps : List (List ℕ × List ℕ)) → Divides f (parts (p ∷ ps)) → Cuts f l b (p ∷ ps)
-cuts f l b p ps d = record {
-  parts = λ whole turns. total-long start f l b whole ∙ total-parts start f l (p .0) (parts ps) d start-sound ∙ sym (turns-long (p ∷ ps) start l turns);
-  plain = plain-is f l b;
-}
+pub cuts : (s : State) (f l b : List ℕ) (p : List ℕ × List ℕ) (ps : List (List ℕ × List ℕ)) → Divides f (parts (p ∷ ps)) → LongEnough (packContinued s f l b .answer) → LongEnough (inTurn s l (p ∷ ps))
+    → totalOf (packContinued s f l b) ≡ inTurn s l (p ∷ ps)
+cuts s f l b p ps d whole turns = total-long s f l b whole ∙ total-parts s f l (p .0) (parts ps) d ∙ sym (turns-long (p ∷ ps) s l turns)

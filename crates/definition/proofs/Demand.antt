@@ -1,4 +1,4 @@
--- Demand 3, proved: size, reading back and writing again of specs/Claims.antt. (`cuts` is in Cutting, `returned` and the rooms in Calls, `bounded` in Bound.)
+-- Demand 3, proved: `demand` is all of it. Size, reading back and writing again hold of a run's output (Size, ReadBack), and so of the calls with buffers; the cuts are in Cutting.
 use Prim.Native.Nat.{ℕ, _+_, _-_, _%_, _^_, _≤_}
 use native.Mathlib.Omega.{arith}
 use mathlib.Core.Path.{_≡_, refl, sym, ap, _∙_}
@@ -10,16 +10,15 @@ use lib.ListN.{length, length-append}
 use lib.Seq.{drop-at}
 use borrow.Author.Tests.{le-leb}
 use Rattle.definition.specs.Answers.{refused, accepted, _>>=_}
-use Rattle.definition.specs.Bytes.{IsByte}
 use Rattle.definition.specs.Options.{options}
 use Rattle.definition.specs.Ops.{ops}
-use Rattle.definition.specs.Values.{Value, Held}
+use Rattle.definition.specs.Values.{Value}
 use Rattle.definition.specs.Lists.{listOf}
 use Rattle.definition.specs.States.{start}
 use Rattle.definition.specs.Writing.{zeroed, Output, output, Place, place}
 use Rattle.definition.specs.Reading.{offset, positionOf}
 use Rattle.definition.specs.Calls.{into, pack, recordOf, stringPack, stringUnpack}
-use Rattle.definition.specs.Claims.{All, LongEnough, gives, outputOf, written, packedBytes, keep, keptList, Holds, hasOpen, ShortChars, IntegersForJ, Agreement}
+use Rattle.definition.specs.Claims.{LongEnough, gives, outputOf, written, packedBytes, keep, keptList, Holds, hasOpen, Readable, Agreement, Demand}
 use Rattle.definition.proofs.Answers.{never, bound}
 use Rattle.definition.proofs.Cells.{holds-length}
 use Rattle.definition.proofs.Lists.{values-held, values-of}
@@ -27,33 +26,33 @@ use Rattle.definition.proofs.Ops.{options-sizes, ops-valid}
 use Rattle.definition.proofs.Traces.{unpackValues, listed, unpack-values}
 use Rattle.definition.proofs.ReadBack.{Given, read-back, kept-took, write-again, kept-held}
 use Rattle.definition.proofs.Size.{size-measured}
+use Rattle.definition.proofs.Cutting.{cuts, plain-is}
 use Rattle.definition.proofs.Calls.{into-long, into-accepted, start-sound, pack-run, Packed, packed, length-record}
 
 -- of an accepted run: the values vs, and the run's end and output r
-module _ (f l : List ℕ) (r : Place Value × Output) (e : pack start f l ≡ accepted r) (p : Packed start f l r) (h : All Held (p .vs)) where
+module _ (f l : List ℕ) (r : Place Value × Output) (e : pack start f l ≡ accepted r) (p : Packed start f l r) where
   -- the output that the claims name
   output-is : written f l ≡ r .1
   output-is = ap outputOf e
 
-  given : ShortChars f → IntegersForJ f l → Given (place start (p .vs)) (ops options f) (r .1)
-  given short integers = record { valid = ops-valid options options-sizes f; short = short; held = h; integers = rw output-is at integers }
+  given : Readable f l → Given (place start (p .vs)) (ops options f) (r .1)
+  given g = record { valid = ops-valid options options-sizes f; short = g .short; held = values-held l (p .vs) (g .bytes) (p .list); integers = rw output-is at (g .integers) }
 
-  reads : ShortChars f → IntegersForJ f l → (front held rest : List ℕ) → length front % 16 ≡ 0 → Holds (r .1 .cells) held → length (front ++ (held ++ rest)) ≤ 2 ^ 63 - 1
+  reads : Readable f l → (front held rest : List ℕ) → length front % 16 ≡ 0 → Holds (r .1 .cells) held → length (front ++ (held ++ rest)) ≤ 2 ^ 63 - 1
       → unpackValues f (front ++ (held ++ rest)) (pos (length front + 1)) ≡ accepted (map keep (r .1 .took), positionOf (offset (length front + length held)))
-  reads short integers front held rest near m n =
+  reads g front held rest near m n =
       let d : List ℕ = front ++ (held ++ rest) in
       let fits : leb (length d) (2 ^ 63 - 1) ≡ true = le-leb (length d) (2 ^ 63 - 1) n in
       let one : leb 1 (length front + 1) ≡ true = le-leb 1 (length front + 1) (omega arith) in
       let end : leb (length front + 1) (length d + 1) ≡ true = le-leb (length front + 1) (length d + 1) (omega (arith, length-append front (held ++ rest))) in
       let i : length front + 1 - 1 ≡ length front = omega arith in
-      rw (fits, one, end, i, drop-at front (held ++ rest) (length front) refl, read-back (place start (p .vs)) (ops options f) (r .0) (r .1) (p .run) (given short integers) (length front) held rest near m)
+      rw (fits, one, end, i, drop-at front (held ++ rest) (length front) refl, read-back (place start (p .vs)) (ops options f) (r .0) (r .1) (p .run) (given g) (length front) held rest near m)
 
   -- the kept values, as a list, are read as these values, and writing them gives the same bytes
-  again : ShortChars f → IntegersForJ f l → pack start f (listOf (map keep (r .1 .took))) ≡ accepted (place (r .0 .state) [], output (r .1 .cells) (map kept-took (r .1 .took)) (r .1 .items))
-  again short integers =
-      let g = given short integers in
-      pack-run start f (listOf (map keep (r .1 .took))) (map keep (r .1 .took)) start-sound (values-of (map keep (r .1 .took)) (kept-held (place start (p .vs)) (ops options f) (r .0) (r .1) (p .run) g))
-      ∙ (rw append-nil at (write-again (place start (p .vs)) (ops options f) (r .0) (r .1) (p .run) g []))
+  again : Readable f l → pack start f (listOf (map keep (r .1 .took))) ≡ accepted (place (r .0 .state) [], output (r .1 .cells) (map kept-took (r .1 .took)) (r .1 .items))
+  again g =
+      pack-run start f (listOf (map keep (r .1 .took))) (map keep (r .1 .took)) start-sound (values-of (map keep (r .1 .took)) (kept-held (place start (p .vs)) (ops options f) (r .0) (r .1) (p .run) (given g)))
+      ∙ (rw append-nil at (write-again (place start (p .vs)) (ops options f) (r .0) (r .1) (p .run) (given g) []))
 
   bytes-are : packedBytes f l ≡ recordOf (r .1)
   bytes-are = ap recordOf output-is
@@ -77,22 +76,24 @@ module _ (f l : List ℕ) (r : Place Value × Output) (e : pack start f l ≡ ac
   agree b long = record {
     wrote = fills l r b e refl long;
     size = size-measured options f (p .vs) (r .0) (r .1) (p .run) ∙ ap (λ (n : ℕ). cond (hasOpen (ops options f)) (refused 10) (accepted n)) (sym length-is);
-    back = λ short integers front held rest b near m n long.
+    back = λ g front held rest b near m n long.
         let m′ : Holds (r .1 .cells) held = rw output-is at m in
-        let i = reads short integers front held rest near m′ n in
+        let i = reads g front held rest near m′ n in
         let l′ : length held ≡ length (packedBytes f l) = holds-length (r .1 .cells) held m′ ∙ sym length-is in
         let answer = listed (map keep (r .1 .took), positionOf (offset (length front + length held))) in
         let is : stringUnpack f (front ++ (held ++ rest)) (pos (length front + 1)) b ≡ into b (accepted answer) = unpack-values f (front ++ (held ++ rest)) (pos (length front + 1)) b ∙ rw i in
         rw (list-is, ← l′) (is ∙ into-long b (answer .0) (answer .1) (rw is at long));
-    again = λ short integers b long.
-        fills (keptList f l) (place (r .0 .state) [], output (r .1 .cells) (map kept-took (r .1 .took)) (r .1 .items)) b (ap (pack start f) list-is ∙ again short integers) refl long;
+    again = λ g b long.
+        fills (keptList f l) (place (r .0 .state) [], output (r .1 .cells) (map kept-took (r .1 .took)) (r .1 .items)) b (ap (pack start f) list-is ∙ again g) refl long;
   }
 
--- writing that is accepted, into some buffer, of a list of bytes
-pub agreement : (f l b : List ℕ) (n : ℕ) → All IsByte l → stringPack f l b .answer ≡ accepted n → Agreement f l b
+-- writing that is accepted, into some buffer
+agreement : (f l b : List ℕ) (n : ℕ) → stringPack f l b .answer ≡ accepted n → Agreement f l b
 unfolding stringPack
-agreement f l b n h e =
+agreement f l b n e =
     let i = into-accepted b (pack start f l >>= λ r. accepted (length (r .1 .cells), recordOf (r .1))) n e in
     let q = bound (pack start f l) (λ r. accepted (length (r .1 .cells), recordOf (r .1))) (i .1) in
-    let p = packed start f l (q .val) (q .is) in
-    agree f l (q .val) (q .is) p (values-held l (p .vs) h (p .list)) b (λ x. never (sym x ∙ e))
+    agree f l (q .val) (q .is) (packed start f l (q .val) (q .is)) b (λ x. never (sym x ∙ e))
+
+pub demand : Demand
+demand = record { agreement = agreement; cuts = cuts; plain = plain-is }

@@ -18,5 +18,6 @@ pub mod Calls
 pub mod Cutting
 pub mod Bound
 pub mod Demand
+pub mod Premises
 pub mod Program
 pub mod Numbered

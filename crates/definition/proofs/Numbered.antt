@@ -13,14 +13,14 @@ use Rattle.definition.specs.Measuring.{measure}
 use Rattle.definition.specs.Bound.{bound}
 use Rattle.definition.specs.States.{start}
 use Rattle.definition.specs.Calls.{Call, atMost63, into, stringPacksize, listBound, pack, packContinued, stringPack, unpack, stringUnpack}
-use Rattle.definition.specs.Claims.{Numbered}
+use Rattle.definition.specs.Claims.{Listed, Numbered}
 use Rattle.definition.specs.declared.State.{State}
 use Rattle.definition.proofs.Answers.{never, same-number}
 use Rattle.definition.proofs.Refusals.{Refuses, items-give, ByCall, low, fine, low-bind, low-check, low-up, among-all, low-measure, low-bound, low-pack, low-unpack}
 
-numbered : {A : Type 0} (c : Checked A) → Refuses (among refusals) c → Numbered c
-numbered (refused j) (low h) k e = subst (λ (x : ℕ). T (among refusals x)) (same-number e) h
-numbered (accepted a) h k e = absurd (never (sym e))
+listed : {A : Type 0} (c : Checked A) → Refuses (among refusals) c → Listed c
+listed (refused j) (low h) k e = subst (λ (x : ℕ). T (among refusals x)) (same-number e) h
+listed (accepted a) h k e = absurd (never (sym e))
 
 -- of a call, but for its result buffer, and of items
 of-call : (k : ℕ) → T (among (16 ∷ 21 ∷ items-give) k) → T (among refusals k)
@@ -29,30 +29,33 @@ of-call = among-all refusals (16 ∷ 21 ∷ items-give) tt
 of-item : (k : ℕ) → T (among items-give k) → T (among refusals k)
 of-item = among-all refusals items-give tt
 
-either : {A : Type 0} (t : Bool) (x y : Call A) → Numbered (x .answer) → Numbered (y .answer) → Numbered (cond t x y .answer)
+either : {A : Type 0} (t : Bool) (x y : Call A) → Listed (x .answer) → Listed (y .answer) → Listed (cond t x y .answer)
 either true x y g h = g
 either false x y g h = h
 
 -- of what a call puts into a lent buffer
-numbered-into : {A : Type 0} (b : List ℕ) (c : Checked (A × List ℕ)) → ByCall c → Numbered (into b c .answer)
-numbered-into b (refused j) (low h) = numbered (refused j) (low (of-call j h))
-numbered-into b (accepted r) h = either (leb (length (r .1)) (length b)) _ _ (numbered (accepted (r .0)) fine) (numbered (refused 22) (low tt))
+listed-into : {A : Type 0} (b : List ℕ) (c : Checked (A × List ℕ)) → ByCall c → Listed (into b c .answer)
+listed-into b (refused j) (low h) = listed (refused j) (low (of-call j h))
+listed-into b (accepted r) h = either (leb (length (r .1)) (length b)) _ _ (listed (accepted (r .0)) fine) (listed (refused 22) (low tt))
 
-pub numbered-size : (f : List ℕ) → Numbered (stringPacksize f)
-numbered-size f = numbered (measure options f) (low-up (measure options f) of-item (low-measure options f))
+listed-size : (f : List ℕ) → Listed (stringPacksize f)
+listed-size f = listed (measure options f) (low-up (measure options f) of-item (low-measure options f))
 
-pub numbered-bound : (f : List ℕ) (d : ℕ) → Numbered (listBound f d)
+listed-bound : (f : List ℕ) (d : ℕ) → Listed (listBound f d)
 unfolding listBound
-numbered-bound f d = numbered _ (low-check (atMost63 d) 21 (bound options f d) tt (low-up (bound options f d) of-item (low-bound options f d)))
+listed-bound f d = listed _ (low-check (atMost63 d) 21 (bound options f d) tt (low-up (bound options f d) of-item (low-bound options f d)))
 
-pub numbered-pack : (f l b : List ℕ) → Numbered (stringPack f l b .answer)
+listed-pack : (f l b : List ℕ) → Listed (stringPack f l b .answer)
 unfolding stringPack
-numbered-pack f l b = numbered-into b _ (low-bind (pack start f l) _ (low-pack start f l) (λ r. fine))
+listed-pack f l b = listed-into b _ (low-bind (pack start f l) _ (low-pack start f l) (λ r. fine))
 
-pub numbered-continued : (s : State) (f l b : List ℕ) → Numbered (packContinued s f l b .answer)
+listed-continued : (s : State) (f l b : List ℕ) → Listed (packContinued s f l b .answer)
 unfolding packContinued
-numbered-continued s f l b = numbered-into b _ (low-bind (pack s f l) _ (low-pack s f l) (λ r. fine))
+listed-continued s f l b = listed-into b _ (low-bind (pack s f l) _ (low-pack s f l) (λ r. fine))
 
-pub numbered-unpack : (f d : List ℕ) (p : ℤ) (b : List ℕ) → Numbered (stringUnpack f d p b .answer)
+listed-unpack : (f d : List ℕ) (p : ℤ) (b : List ℕ) → Listed (stringUnpack f d p b .answer)
 unfolding stringUnpack
-numbered-unpack f d p b = numbered-into b _ (low-bind (unpack f d p) _ (low-unpack f d p) (λ r. fine))
+listed-unpack f d p b = listed-into b _ (low-bind (unpack f d p) _ (low-unpack f d p) (λ r. fine))
+
+pub numbered : Numbered
+numbered = record { sizes = listed-size; bounds = listed-bound; packs = listed-pack; continues = listed-continued; reads = listed-unpack }

@@ -1,4 +1,4 @@
--- Demand 3 as statements about the calls of specs/Calls.antt, which the contracts of the code name. proofs/Demand.antt proves each.
+-- Demand 3, and what else is claimed of the calls of specs/Calls.antt, which the contracts of the code name. `Demand`, `Returned`, `Rooms`, `Numbered` and `Bounded` are the claims: statements without free variables. docs/DEMAND.md says where each is proved.
 use Prim.Native.Nat.{ℕ, _+_, _-_, _%_, _^_, _≤_, _<_}
 use mathlib.Core.Path.{_≡_}
 use mathlib.Core.Bool.{Bool, true, false, _||_, cond}
@@ -9,6 +9,7 @@ use lib.Dec.{T, leb}
 use lib.IntN.{ℤ, pos}
 use lib.ListN.{length, take, drop}
 use Rattle.definition.specs.Answers.{Checked, refused, accepted, _>>=_}
+use Rattle.definition.specs.Bytes.{IsByte}
 use Rattle.definition.specs.Items.{Item, items, texts}
 use Rattle.definition.specs.Refusals.{refusals, among}
 use Rattle.definition.specs.Options.{options}
@@ -123,6 +124,12 @@ integerForJ (Counted n) v = true
 abbrev pub IntegersForJ : List ℕ → List ℕ → Type 0
 IntegersForJ f l = All (λ t. T (integerForJ (t .0) (t .1))) (written f l .took)
 
+-- "If also no c numeral is above 65,535 and J took integers only", of a list of bytes
+pub record Readable (f l : List ℕ) : Type 0 where
+  pub bytes : All IsByte l
+  pub short : ShortChars f
+  pub integers : IntegersForJ f l
+
 -- ---- size, reading back, writing again: where writing f with l into some buffer b is accepted
 
 pub record Agreement (f l b : List ℕ) : Type 0 where
@@ -130,13 +137,13 @@ pub record Agreement (f l b : List ℕ) : Type 0 where
   pub wrote : stringPack f l b ≡ gives (length (packedBytes f l)) (packedBytes f l) b
   -- "Then packsize gives B's length if F has no z or s, and 10 if it has."
   pub size : stringPacksize f ≡ cond (hasOpen (ops options f)) (refused 10) (accepted (length (packedBytes f l)))
-  -- "If also no c numeral is above 65,535 and J took integers only: in any data of at most 2^63-1 bytes holding B at an offset that is a multiple of 16, whichever bytes replace B's padding, reading F there gives exactly document 01's kept values and the position just after B"
-  pub back : ShortChars f → IntegersForJ f l → (front held rest b : List ℕ) → length front % 16 ≡ 0 → Holds (written f l .cells) held → length (front ++ (held ++ rest)) ≤ 2 ^ 63 - 1
+  -- "in any data of at most 2^63-1 bytes holding B at an offset that is a multiple of 16, whichever bytes replace B's padding, reading F there gives exactly document 01's kept values and the position just after B"
+  pub back : Readable f l → (front held rest b : List ℕ) → length front % 16 ≡ 0 → Holds (written f l .cells) held → length (front ++ (held ++ rest)) ≤ 2 ^ 63 - 1
       → LongEnough (stringUnpack f (front ++ (held ++ rest)) (pos (length front + 1)) b .answer)
       → stringUnpack f (front ++ (held ++ rest)) (pos (length front + 1)) b
       ≡ gives (record { length = length (keptList f l); next = positionOf (offset (length front + length (packedBytes f l))) }) (keptList f l) b
   -- "and writing those values again gives B"
-  pub again : ShortChars f → IntegersForJ f l → (b : List ℕ) → LongEnough (stringPack f (keptList f l) b .answer)
+  pub again : Readable f l → (b : List ℕ) → LongEnough (stringPack f (keptList f l) b .answer)
       → stringPack f (keptList f l) b ≡ gives (length (packedBytes f l)) (packedBytes f l) b
 
 -- ---- cuts
@@ -171,18 +178,27 @@ unfoldable pub inTurn : State → List ℕ → List (List ℕ × List ℕ) → C
 inTurn s l [] = accepted (record { next = s; bytes = []; used = 0; items = 0 })
 inTurn s l (p ∷ ps) = totalOf (packContinued s (p .0) l (p .1)) >>= λ t. inTurn (t .next) (fieldsAfter (t .used) l) ps >>= λ u. accepted (joinedTo t u)
 
--- of a format and one or more parts
-pub record Cuts (f l b : List ℕ) (ps : List (List ℕ × List ℕ)) : Type 0 where
-  -- "continued writing of the parts in turn, from the start state, gives the bytes, last state and counts of one such call on the whole, or the same refusal"
-  pub parts : LongEnough (packContinued start f l b .answer) → LongEnough (inTurn start l ps) → totalOf (packContinued start f l b) ≡ inTurn start l ps
+-- ---- demand 3, whole
+
+-- for every format f, value list l and result buffer b
+pub record Demand : Type 0 where
+  -- "Writing accepts F with some values": what then holds
+  pub agreement : (f l b : List ℕ) (n : ℕ) → stringPack f l b .answer ≡ accepted n → Agreement f l b
+  -- "And for every format and values, accepted or refused, and every list of parts into which cuts between items divide the format: continued writing of the parts in turn, from the start state,
+  -- gives the bytes, last state and counts of one such call on the whole, or the same refusal." One or more parts; from every state s, of which `start` is one.
+  pub cuts : (s : State) (f l b : List ℕ) (p : List ℕ × List ℕ) (ps : List (List ℕ × List ℕ)) → Divides f (map (λ q. q .0) (p ∷ ps))
+      → LongEnough (packContinued s f l b .answer) → LongEnough (inTurn s l (p ∷ ps))
+      → totalOf (packContinued s f l b) ≡ inTurn s l (p ∷ ps)
   -- "Plain writing of F with the whole list gives that one call's bytes, or its refusal."
-  pub plain : stringPack f l b ≡ call (packContinued start f l b .answer >>= λ a. accepted (a .written)) (packContinued start f l b .buffer)
+  pub plain : (f l b : List ℕ) → stringPack f l b ≡ call (packContinued start f l b .answer >>= λ a. accepted (a .written)) (packContinued start f l b .buffer)
+
+-- ---- what else is claimed
 
 -- a state that was returned and the list's rest are never refused by 21
-abbrev pub Returned : State → List ℕ → List ℕ → List ℕ → Type 0
-Returned s f l b = (a : Continued) → packContinued s f l b .answer ≡ accepted a → (g c : List ℕ) → packContinued (a .next) g (fieldsAfter (a .used) l) c .answer ≡ refused 21 → ⊥
+abbrev pub Returned : Type 0
+Returned = (s : State) (f l b : List ℕ) (a : Continued) → packContinued s f l b .answer ≡ accepted a → (g c : List ℕ) → packContinued (a .next) g (fieldsAfter (a .used) l) c .answer ≡ refused 21 → ⊥
 
--- ---- the lent result buffer: of a call with any such buffer
+-- of a call with any lent result buffer
 pub record Room {A : Type 0} (c : List ℕ → Call A) : Type 0 where
   -- "a refusal changes no byte of any lent buffer"
   pub unchanged : (b : List ℕ) (k : ℕ) → c b .answer ≡ refused k → c b .buffer ≡ b
@@ -193,10 +209,25 @@ pub record Room {A : Type 0} (c : List ℕ → Call A) : Type 0 where
   -- a call that gives 22 has a result s longer than the buffer, and is accepted with every buffer at least as long as s
   pub longer : (b : List ℕ) → c b .answer ≡ refused 22 → (a : A) × (s : List ℕ) × (length b < length s) × ((d : List ℕ) → length s ≤ length d → c d ≡ gives a s d)
 
--- ---- "A refusal returns its number only": a number of the list, in which 0 is not, so that a caller may take 0 for "accepted"
-abbrev pub Numbered : {A : Type 0} → Checked A → Type 0
-Numbered c = (k : ℕ) → c ≡ refused k → T (among refusals k)
+-- every call that is lent a result buffer
+pub record Rooms : Type 0 where
+  pub packs : (f l : List ℕ) → Room (stringPack f l)
+  pub continues : (s : State) (f l : List ℕ) → Room (packContinued s f l)
+  pub reads : (f d : List ℕ) (p : ℤ) → Room (stringUnpack f d p)
 
--- ---- "an accepted reading's list is at most this long": the bound is accepted, or 9
-abbrev pub Bounded : List ℕ → List ℕ → ℤ → List ℕ → Type 0
-Bounded f d p b = (u : Unpacked) → stringUnpack f d p b .answer ≡ accepted u → ((n : ℕ) × (listBound f (length d) ≡ accepted n) × (u .length ≤ n)) ⊎ (listBound f (length d) ≡ refused 9)
+-- "A refusal returns its number only": a number of the list, in which 0 is not, so that a caller may take 0 for "accepted"
+abbrev pub Listed : {A : Type 0} → Checked A → Type 0
+Listed c = (k : ℕ) → c ≡ refused k → T (among refusals k)
+
+-- every call
+pub record Numbered : Type 0 where
+  pub sizes : (f : List ℕ) → Listed (stringPacksize f)
+  pub bounds : (f : List ℕ) (d : ℕ) → Listed (listBound f d)
+  pub packs : (f l b : List ℕ) → Listed (stringPack f l b .answer)
+  pub continues : (s : State) (f l b : List ℕ) → Listed (packContinued s f l b .answer)
+  pub reads : (f d : List ℕ) (p : ℤ) (b : List ℕ) → Listed (stringUnpack f d p b .answer)
+
+-- "an accepted reading's list is at most this long": the bound is accepted, or 9
+abbrev pub Bounded : Type 0
+Bounded = (f d : List ℕ) (p : ℤ) (b : List ℕ) (u : Unpacked) → stringUnpack f d p b .answer ≡ accepted u
+    → ((n : ℕ) × (listBound f (length d) ≡ accepted n) × (u .length ≤ n)) ⊎ (listBound f (length d) ≡ refused 9)
