@@ -1,11 +1,11 @@
 -- Laws of answers and of runs: what an accepted answer went through, and one induction over accepted runs.
-use mathlib.Core.Path.{_≡_, refl, sym, ap, _∙_, subst}
+use mathlib.Core.Path.{_≡_, refl, ap, subst}
 use mathlib.Core.Bool.{Bool, true, false}
 use mathlib.Core.List.{List, [], _∷_}
 use mathlib.Core.Option.{Option, none, some}
 use Prim.Native.Nat.{ℕ}
 use native.Mathlib.Omega.{arith}
-use Rattle.definition.specs.Answers.{Checked, refused, accepted, _>>=_, _>>_, require, orElse, after, run}
+use Rattle.definition.specs.Answers.{Checked, refused, accepted, _>>=_, _>>_, require, orElse, after, run, silent, runSilent}
 
 pub never : {A : Type 0} {k : ℕ} {a : A} → refused k ≡ accepted a → ⊥
 never e = let z : _≡_ {A = ℕ} 0 1 = cc in omega arith
@@ -50,17 +50,33 @@ module _ {S I O : Type 0} (step : S → I → Checked (S × O)) (nothing : O) (_
   after-accepted o (accepted r) q e = (r, refl, same e)
 
   -- a run whose first step and whose rest are accepted
-  pub on : (s t : S) (i : I) (is : List I) (a : O) (r : S × O) → step s i ≡ accepted (t, a) → run step nothing _⊕_ t is ≡ accepted r → run step nothing _⊕_ s (i ∷ is) ≡ accepted (r .0, a ⊕ (r .1))
+  pub on : (s t : S) (i : I) (is : List (Checked I)) (a : O) (r : S × O) → step s i ≡ accepted (t, a) → run step nothing _⊕_ t is ≡ accepted r
+      → run step nothing _⊕_ s (accepted i ∷ is) ≡ accepted (r .0, a ⊕ (r .1))
   on s t i is a r e f = rw (e, f)
 
   -- what holds of an accepted run, by its steps
-  pub by-steps : (P : S → List I → S → O → Type 0)
+  pub by-steps : (P : S → List (Checked I) → S → O → Type 0)
       → ((s : S) → P s [] s nothing)
-      → ((s : S) (i : I) (t : S) (a : O) (is : List I) (u : S) (b : O) → step s i ≡ accepted (t, a) → P t is u b → P s (i ∷ is) u (a ⊕ b))
-      → (s : S) (is : List I) (u : S) (o : O) → run step nothing _⊕_ s is ≡ accepted (u, o) → P s is u o
+      → ((s : S) (i : I) (t : S) (a : O) (is : List (Checked I)) (u : S) (b : O) → step s i ≡ accepted (t, a) → P t is u b → P s (accepted i ∷ is) u (a ⊕ b))
+      → (s : S) (is : List (Checked I)) (u : S) (o : O) → run step nothing _⊕_ s is ≡ accepted (u, o) → P s is u o
   by-steps P z n s [] u o e = subst (λ (r : S × O). P s [] (r .0) (r .1)) (same e) (z s)
-  by-steps P z n s (i ∷ is) u o e =
+  by-steps P z n s (refused k ∷ is) u o e = absurd (never e)
+  by-steps P z n s (accepted i ∷ is) u o e =
       let b = bound (step s i) (λ r. after step nothing _⊕_ (r .1) (run step nothing _⊕_ (r .0) is)) e in
       let c = after-accepted (b .val .1) (run step nothing _⊕_ (b .val .0) is) (u, o) (b .rest) in
-      subst (λ (r : S × O). P s (i ∷ is) (r .0) (r .1)) (c .2)
+      subst (λ (r : S × O). P s (accepted i ∷ is) (r .0) (r .1)) (c .2)
       (n s i (b .val .0) (b .val .1) is (c .0 .0) (c .0 .1) (b .is) (by-steps P z n (b .val .0) is (c .0 .0) (c .0 .1) (c .1)))
+
+-- a run that puts nothing out, by its first item
+module _ {S I : Type 0} (step : S → I → Checked S) where
+  unsaid : (c : Checked (S × Unit {0})) → (after (silent step) tt (λ a b. tt) tt c >>= λ r. accepted (r .0)) ≡ (c >>= λ r. accepted (r .0))
+  unsaid (refused k) = refl
+  unsaid (accepted r) = refl
+
+  pub silent-on : (s : S) (i : I) (is : List (Checked I)) → runSilent step s (accepted i ∷ is) ≡ (step s i >>= λ t. runSilent step t is)
+  silent-on s i is = go (step s i)
+    where
+      go : (c : Checked S) → (_>>=_ {A = S} {B = S × Unit {0}} c (λ t. accepted (t, tt)) >>= (λ r. after (silent step) tt (λ a b. tt) (r .1) (run (silent step) tt (λ a b. tt) (r .0) is)) >>= λ r. accepted (r .0))
+          ≡ (c >>= λ t. runSilent step t is)
+      go (refused k) = refl
+      go (accepted t) = unsaid (run (silent step) tt (λ a b. tt) t is)

@@ -2,26 +2,26 @@
 use Prim.Native.Nat.{ℕ, suc, _+_, _-_, _^_, _≤_, min}
 use mathlib.Core.Path.{_≡_, refl, sym, ap, _∙_, subst}
 use mathlib.Core.Bool.{Bool, true, false, cond}
-use mathlib.Core.List.{List, [], _∷_, _++_}
+use mathlib.Core.List.{List, [], _∷_, _++_, map-append}
 use mathlib.Core.Logic.{_⊎_, inl, inr}
 use native.Mathlib.Omega.{arith}
 use lib.Dec.{leb, eqb}
 use lib.ListN.{length, take, drop, length-drop}
 use lib.Seq.{length-take-le}
 use borrow.Author.Tests.{leb-true}
-use Rattle.definition.specs.Answers.{refused, accepted, _>>=_}
-use Rattle.definition.specs.Items.{Item, items}
-use Rattle.definition.specs.Ops.{opOf, isPower}
+use Rattle.definition.specs.Answers.{Checked, refused, accepted, _>>=_}
+use Rattle.definition.specs.Options.{options}
+use Rattle.definition.specs.Ops.{ops, isPower}
 use Rattle.definition.specs.Bytes.{sign, signed, low}
 use Rattle.definition.specs.Values.{Value, integer, text}
 use Rattle.definition.specs.Lists.{content, listOf}
 use Rattle.definition.specs.States.{start, set, further, longer, natural, alignment, fill, padding}
 use Rattle.definition.specs.Fields.{first, short, upToZero, all, number, signedValue, unsigned, unsignedValue, valueBy, decode}
 use Rattle.definition.specs.Writing.{Place, place}
-use Rattle.definition.specs.Reading.{offsetOf, skipped, readPad, readField, readOp, readItem, reading, readFrom, read}
-use Rattle.definition.specs.Bound.{most, boundOp, boundItem, bounding}
+use Rattle.definition.specs.Reading.{Read, offset, offsetOf, valuesOf, skipped, readPad, readField, readOp, reading, readFrom, read}
+use Rattle.definition.specs.Bound.{most, boundOp, bounding}
 use Rattle.definition.specs.Bound as List-bound
-use Rattle.definition.specs.Calls.{atMost63, listBound, unpack, unpackedOf, stringUnpack}
+use Rattle.definition.specs.Calls.{atMost63, listBound, unpack, unpackedOf, listRead, stringUnpack}
 use Rattle.definition.specs.Claims.{Bounded}
 use Rattle.definition.specs.declared.State.{State}
 use Rattle.definition.specs.declared.Setting.{Setting}
@@ -34,7 +34,7 @@ use Rattle.definition.specs.declared.Op.{Op}
 use Rattle.definition.specs.declared.Op.the-variants as Op
 use Rattle.definition.specs.declared.Position.{Position}
 use Rattle.definition.specs.declared.Unpacked.{Unpacked}
-use Rattle.definition.proofs.Answers.{never, same, bound, passed, by-steps}
+use Rattle.definition.proofs.Answers.{never, same, bound, passed, by-steps, silent-on}
 use Rattle.definition.proofs.Lists.{length-big, length-list, list-append}
 use Rattle.definition.proofs.Steps.{set-length}
 use Rattle.definition.proofs.Calls.{into-accepted}
@@ -104,11 +104,11 @@ decode-most o (Counted n) s d r h e =
 -- ---- an item that is read: the bound meets no refusal but 9 at it
 
 -- what the bound of an item comes to, from any state with the limit of the reading
-data Bounds (d : ℕ) (s : State) (o : Op) (q : Place ℕ × List Value) : Type 0 where
-  within : (t : State) → boundOp d s o ≡ accepted t → t .limit ≡ q .0 .state .limit → s .length + length (listOf (q .1)) ≤ t .length → Bounds d s o q
+data Bounds (d : ℕ) (s : State) (o : Op) (q : Place ℕ × List Read) : Type 0 where
+  within : (t : State) → boundOp d s o ≡ accepted t → t .limit ≡ q .0 .state .limit → s .length + length (listRead (q .1)) ≤ t .length → Bounds d s o q
   over : boundOp d s o ≡ refused 9 → Bounds d s o q
 
-record Item-bound (d : ℕ) (s : State) (o : Op) (q : Place ℕ × List Value) : Type 0 where
+record Item-bound (d : ℕ) (s : State) (o : Op) (q : Place ℕ × List Read) : Type 0 where
   less : length (q .0 .left) ≤ d
   bounds : Bounds d s o q
 
@@ -130,7 +130,7 @@ silent-item : (d : ℕ) (s t : State) (o : Op) (r : Place ℕ) → length (r .le
 unfolding listOf
 silent-item d s t o r h e l n = record { less = h; bounds = within t e l (omega arith) }
 
-sum : (d : ℕ) (s : State) (f : Field) (q : Place ℕ × List Value) → alignment s (natural f) ≡ accepted (min (natural f) (s .limit)) → s .limit ≡ q .0 .state .limit → length (listOf (q .1)) ≤ most d f → Bounds d s (Op.Put f) q
+sum : (d : ℕ) (s : State) (f : Field) (q : Place ℕ × List Read) → alignment s (natural f) ≡ accepted (min (natural f) (s .limit)) → s .limit ≡ q .0 .state .limit → length (listRead (q .1)) ≤ most d f → Bounds d s (Op.Put f) q
 unfolding boundOp longer
 sum d s f q e l n = go (leb (s .length + most d f) (2 ^ 63 - 1)) refl
   where
@@ -146,7 +146,7 @@ length-none : length (listOf []) ≡ 0
 unfolding listOf
 length-none = refl
 
-item-bound : (d : ℕ) (s : State) (r : Place ℕ) (o : Op) (q : Place ℕ × List Value) → length (r .left) ≤ d → s .limit ≡ r .state .limit → readOp r o ≡ accepted q → Item-bound d s o q
+item-bound : (d : ℕ) (s : State) (r : Place ℕ) (o : Op) (q : Place ℕ × List Read) → length (r .left) ≤ d → s .limit ≡ r .state .limit → readOp r o ≡ accepted q → Item-bound d s o q
 unfolding readOp readField boundOp
 item-bound d s r Op.Blank q h l e = subst (Item-bound d s Op.Blank) (same e) (silent-item d s s Op.Blank r h refl l refl)
 item-bound d s r (Op.Set x) q h l e = subst (Item-bound d s (Op.Set x)) (same e) (silent-item d s (set x s) (Op.Set x) (place (set x (r .state)) (r .left)) h refl (set-limits x s (r .state) l) (set-length x s))
@@ -157,55 +157,57 @@ item-bound d s r (Op.Pad n k) q h l e =
 item-bound d s r (Op.Put f) q h l e =
     let a = bound (readPad r (natural f) 0) _ e in
     let p = pad-left d r (a .val) (natural f) 0 h (a .is) in
-    let b = bound (decode (r .state .big) f (a .val .left)) (λ v. accepted (skipped (a .val) (v .1), v .0 ∷ [])) (a .rest) in
+    let b = bound (decode (r .state .big) f (a .val .left)) _ (a .rest) in
+    let x : Read = record { field = f; start = offset (a .val .state .length); bytes = take (b .val .1) (a .val .left); value = b .val .0 } in
     let m : length (listOf (b .val .0 ∷ [])) ≤ most d f = omega (arith, length-list (b .val .0) [], length-none, decode-most (r .state .big) f (a .val .left) d (b .val) (p .0) (b .is)) in
     let c : alignment s (natural f) ≡ accepted (min (natural f) (s .limit)) = same-alignment s (r .state) (natural f) (p .2 .0) l (p .2 .1) ∙ ap (λ (x : ℕ). accepted (min (natural f) x)) (sym l) in
     subst (Item-bound d s (Op.Put f)) (same (b .rest)) (record {
       less = omega (arith, length-drop (b .val .1) (a .val .left));
-      bounds = sum d s f (skipped (a .val) (b .val .1), b .val .0 ∷ []) c (l ∙ sym (p .1)) m;
+      bounds = sum d s f (skipped (a .val) (b .val .1), x ∷ []) c (l ∙ sym (p .1)) m;
     })
 
 -- ---- the items
-abbrev Ends : ℕ → State → List Item → List Value → Type 0
-Ends d s is vs = ((u : State) × (bounding d s is ≡ accepted (u, tt)) × (s .length + length (listOf vs) ≤ u .length)) ⊎ (bounding d s is ≡ refused 9)
+abbrev Ends : ℕ → State → List (Checked Op) → List Read → Type 0
+Ends d s is vs = ((u : State) × (bounding d s is ≡ accepted u) × (s .length + length (listRead vs) ≤ u .length)) ⊎ (bounding d s is ≡ refused 9)
 
-abbrev Within : ℕ → Place ℕ → List Item → Place ℕ → List Value → Type 0
+abbrev Within : ℕ → Place ℕ → List (Checked Op) → Place ℕ → List Read → Type 0
 Within d r is t vs = length (r .left) ≤ d → (s : State) → s .limit ≡ r .state .limit → Ends d s is vs
 
 within-none : (d : ℕ) (r : Place ℕ) → Within d r [] r []
 unfolding listOf
 within-none d r h s l = inl (s, refl, omega arith)
 
-within-item : (d : ℕ) (r : Place ℕ) (i : Item) (t : Place ℕ) (a : List Value) (is : List Item) (w : Place ℕ) (vs : List Value) → readItem r i ≡ accepted (t, a) → Within d t is w vs → Within d r (i ∷ is) w (a ++ vs)
-unfolding readItem boundItem
-within-item d r i t a is w vs e ih h s l =
-    let b = bound (opOf i) (readOp r) e in
-    let c = item-bound d s r (b .val) (t, a) h l (b .rest) in
-    go (b .val) (b .is) (c .bounds) (ih (c .less))
-  where
-    go : (o : Op) → opOf i ≡ accepted o → Bounds d s o (t, a) → ((s : State) → s .limit ≡ t .state .limit → Ends d s is vs) → Ends d s (i ∷ is) (a ++ vs)
-    go o p (over g) ih = inr (rw (p, g))
-    go o p (within u g m n) ih = rest (ih u m)
-      where
-        rest : Ends d u is vs → Ends d s (i ∷ is) (a ++ vs)
-        rest (inl x) = inl (x .0, rw (p, g, x .1), omega (arith, list-append a vs, x .2, n))
-        rest (inr x) = inr (rw (p, g, x))
+list-joined : (a b : List Read) → length (listRead (a ++ b)) ≡ length (listRead a) + length (listRead b)
+list-joined a b = ap (λ (vs : List Value). length (listOf vs)) (map-append (λ x. x .value) a b) ∙ list-append (valuesOf a) (valuesOf b)
 
-run-within : (d : ℕ) (r : Place ℕ) (is : List Item) (t : Place ℕ) (vs : List Value) → reading r is ≡ accepted (t, vs) → Within d r is t vs
-run-within d = by-steps readItem [] _++_ (Within d) (within-none d) (within-item d)
+within-item : (d : ℕ) (r : Place ℕ) (i : Op) (t : Place ℕ) (a : List Read) (is : List (Checked Op)) (w : Place ℕ) (vs : List Read) → readOp r i ≡ accepted (t, a) → Within d t is w vs → Within d r (accepted i ∷ is) w (a ++ vs)
+within-item d r i t a is w vs e ih h s l =
+    let c = item-bound d s r i (t, a) h l e in
+    go (c .bounds) (ih (c .less))
+  where
+    go : Bounds d s i (t, a) → ((s : State) → s .limit ≡ t .state .limit → Ends d s is vs) → Ends d s (accepted i ∷ is) (a ++ vs)
+    go (over g) ih = inr (silent-on (boundOp d) s i is ∙ rw g)
+    go (within u g m n) ih = rest (ih u m)
+      where
+        rest : Ends d u is vs → Ends d s (accepted i ∷ is) (a ++ vs)
+        rest (inl x) = inl (x .0, silent-on (boundOp d) s i is ∙ rw (g, x .1), omega (arith, list-joined a vs, x .2, n))
+        rest (inr x) = inr (silent-on (boundOp d) s i is ∙ rw (g, x))
+
+run-within : (d : ℕ) (r : Place ℕ) (is : List (Checked Op)) (t : Place ℕ) (vs : List Read) → reading r is ≡ accepted (t, vs) → Within d r is t vs
+run-within d = by-steps readOp [] _++_ (Within d) (within-none d) (within-item d)
 
 pub bounded : Bounded
 unfolding stringUnpack unpack read listBound List-bound.bound
 bounded f d p b u e =
-    let i = into-accepted b (unpack f d p >>= λ r. accepted (unpackedOf r, listOf (r .0))) u e in
-    let q = bound (unpack f d p) (λ r. accepted (unpackedOf r, listOf (r .0))) (i .1) in
-    let c = passed (atMost63 (length d)) 21 (read f d p) (q .is) in
+    let i = into-accepted b (unpack f d p >>= λ r. accepted (unpackedOf r, listRead (r .0))) u e in
+    let q = bound (unpack f d p) (λ r. accepted (unpackedOf r, listRead (r .0))) (i .1) in
+    let c = passed (atMost63 (length d)) 21 (read options f d p) (q .is) in
     let o = bound (offsetOf p (length d)) _ (c .1) in
-    let r = bound (readFrom f d (o .val)) _ (o .rest) in
-    let vs : r .val .1 ≡ q .val .0 = ap (λ (x : List Value × Position). x .0) (same (r .rest)) in
-    let n : u .length ≡ length (listOf (r .val .1)) = sym (ap (λ (x : Unpacked × List ℕ). x .0 .length) (same (q .rest))) ∙ ap (λ (x : List Value). length (listOf x)) (sym vs) in
-    go (c .0) (r .val .1) n (run-within (length d) _ (items f) (r .val .0) (r .val .1) (r .is) (omega (arith, length-drop (o .val .0) d)) start refl)
+    let r = bound (readFrom options f d (o .val)) _ (o .rest) in
+    let vs : r .val .1 ≡ q .val .0 = ap (λ (x : List Read × Position). x .0) (same (r .rest)) in
+    let n : u .length ≡ length (listRead (r .val .1)) = sym (ap (λ (x : Unpacked × List ℕ). x .0 .length) (same (q .rest))) ∙ ap (λ (x : List Read). length (listRead x)) (sym vs) in
+    go (c .0) (r .val .1) n (run-within (length d) _ (ops options f) (r .val .0) (r .val .1) (r .is) (omega (arith, length-drop (o .val .0) d)) start refl)
   where
-    go : atMost63 (length d) ≡ true → (vs : List Value) → u .length ≡ length (listOf vs) → Ends (length d) start (items f) vs → ((n : ℕ) × (listBound f (length d) ≡ accepted n) × (u .length ≤ n)) ⊎ (listBound f (length d) ≡ refused 9)
+    go : atMost63 (length d) ≡ true → (vs : List Read) → u .length ≡ length (listRead vs) → Ends (length d) start (ops options f) vs → ((n : ℕ) × (listBound f (length d) ≡ accepted n) × (u .length ≤ n)) ⊎ (listBound f (length d) ≡ refused 9)
     go h vs n (inl x) = inl (x .0 .length, rw (h, x .1), omega (arith, x .2, n))
     go h vs n (inr x) = inr (rw (h, x))

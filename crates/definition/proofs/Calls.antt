@@ -11,14 +11,14 @@ use lib.Seq.{drop-drop, take-at}
 use lib.Ieee.Bits.{is-true}
 use borrow.Author.Tests.{leb-true, leb-false, le-leb}
 use Rattle.definition.specs.Answers.{Checked, refused, accepted, _>>=_}
-use Rattle.definition.specs.Items.{Item, items}
-use Rattle.definition.specs.Ops.{isPower}
+use Rattle.definition.specs.Options.{options}
+use Rattle.definition.specs.Ops.{ops, isPower}
 use Rattle.definition.specs.Values.{Value}
-use Rattle.definition.specs.Lists.{front, values, listOf, fieldsAfter}
+use Rattle.definition.specs.Lists.{front, values, fieldsAfter}
 use Rattle.definition.specs.States.{start, set}
-use Rattle.definition.specs.Writing.{zeroed, Output, nothing, _⊕_, Place, place, writeItem, writing, write}
-use Rattle.definition.specs.Calls.{Call, call, into, atMost63, pack, recordOf, continuedOf, packContinued, stringPack, unpack, unpackedOf, stringUnpack}
-use Rattle.definition.specs.Claims.{LongEnough, gives, Total, totalOf, Room, Rooms, Returned}
+use Rattle.definition.specs.Writing.{zeroed, Output, nothing, _⊕_, Place, place, writeOp, writing, write}
+use Rattle.definition.specs.Calls.{Call, call, into, atMost63, pack, recordOf, continuedOf, packContinued, stringPack, unpack, unpackedOf, listRead, stringUnpack}
+use Rattle.definition.specs.Claims.{All, LongEnough, gives, Total, totalOf, Room, Rooms, Returned}
 use Rattle.definition.specs.declared.State.{State}
 use Rattle.definition.specs.declared.Setting.{Setting}
 use Rattle.definition.specs.declared.Setting.the-variants as Setting
@@ -26,9 +26,9 @@ use Rattle.definition.specs.declared.Op.{Op}
 use Rattle.definition.specs.declared.Continued.{Continued}
 use Rattle.definition.proofs.Answers.{never, same, same-number, bound, passed, by-steps, true-not-false}
 use Rattle.definition.proofs.Lists.{values-after}
-use Rattle.definition.proofs.Ops.{validOp, validSetting}
-use Rattle.definition.proofs.Steps.{Step, blank, sets, pads-out, puts, ran}
-use Rattle.definition.proofs.Refusals.{Below, low-writing, low-pack, low-unpack, below-not}
+use Rattle.definition.proofs.Ops.{validOp, validSetting, Valid, options-sizes, ops-valid}
+use Rattle.definition.proofs.Steps.{Step, blank, sets, pads-out, puts, step-of}
+use Rattle.definition.proofs.Refusals.{ByCall, low-ops, low-writing, low-pack, low-unpack, refuses-not}
 
 -- ---- a result in a buffer
 
@@ -109,7 +109,7 @@ both-true : (a b : Bool) → a ≡ true → b ≡ true → (a && b) ≡ true
 both-true a b e f = rw (e, f)
 
 -- a call from a sound state with a list
-pub pack-run : (s : State) (f l : List ℕ) (vs : List Value) → Sound s → values l ≡ accepted vs → pack s f l ≡ write s vs f
+pub pack-run : (s : State) (f l : List ℕ) (vs : List Value) → Sound s → values l ≡ accepted vs → pack s f l ≡ write options s vs f
 unfolding pack
 pack-run s f l vs h e = rw (h, e)
 
@@ -126,11 +126,11 @@ step-sound r o t a (sets x) ok h = set-sound x (r .state) ok h
 step-sound r o t a (pads-out n k p e w) ok h = longer-sound (r .state) (r .state .length + (p + k)) h w
 step-sound r o t a (puts f p s v vs bs e g l c w) ok h = longer-sound (r .state) (r .state .length + (p + length bs)) h w
 
-abbrev Stays : Place Value → List Item → Place Value → Output → Type 0
-Stays r is u o = Sound (r .state) → Sound (u .state)
+abbrev Stays : Place Value → List (Checked Op) → Place Value → Output → Type 0
+Stays r is u o = All Valid is → Sound (r .state) → Sound (u .state)
 
-pub run-sound : (r : Place Value) (is : List Item) (u : Place Value) (o : Output) → writing r is ≡ accepted (u, o) → Stays r is u o
-run-sound = by-steps writeItem nothing _⊕_ Stays (λ r h. h) (λ r i t a is u o e ih h. let w = ran r i t a e in ih (step-sound r (w .op) t a (w .step) (w .valid) h))
+pub run-sound : (r : Place Value) (is : List (Checked Op)) (u : Place Value) (o : Output) → writing r is ≡ accepted (u, o) → Stays r is u o
+run-sound = by-steps writeOp nothing _⊕_ Stays (λ r v h. h) (λ r i t a is u o e ih v h. ih (v .1) (step-sound r i t a (step-of r i (t, a) e) (v .0 i refl) h))
 
 step-left : (r : Place Value) (o : Op) (t : Place Value) (a : Output) → Step r o t a → t .left ≡ drop (length (a .took)) (r .left)
 step-left r o t a blank = refl
@@ -138,38 +138,37 @@ step-left r o t a (sets x) = refl
 step-left r o t a (pads-out n k p e w) = refl
 step-left r o t a (puts f p s v vs bs e g l c w) = sym (ap (drop 1) l)
 
-abbrev Left : Place Value → List Item → Place Value → Output → Type 0
+abbrev Left : Place Value → List (Checked Op) → Place Value → Output → Type 0
 Left r is u o = u .left ≡ drop (length (o .took)) (r .left)
 
-left-item : (r : Place Value) (i : Item) (t : Place Value) (a : Output) (is : List Item) (u : Place Value) (o : Output) → writeItem r i ≡ accepted (t, a) → Left t is u o → Left r (i ∷ is) u (a ⊕ o)
+left-item : (r : Place Value) (i : Op) (t : Place Value) (a : Output) (is : List (Checked Op)) (u : Place Value) (o : Output) → writeOp r i ≡ accepted (t, a) → Left t is u o → Left r (accepted i ∷ is) u (a ⊕ o)
 left-item r i t a is u o e ih =
-    let w = ran r i t a e in
-    ih ∙ ap (drop (length (o .took))) (step-left r (w .op) t a (w .step)) ∙ drop-drop (length (o .took)) (length (a .took)) (r .left) ∙ ap (λ (n : ℕ). drop n (r .left)) (sym (length-append (a .took) (o .took)))
+    ih ∙ ap (drop (length (o .took))) (step-left r i t a (step-of r i (t, a) e)) ∙ drop-drop (length (o .took)) (length (a .took)) (r .left) ∙ ap (λ (n : ℕ). drop n (r .left)) (sym (length-append (a .took) (o .took)))
 
 -- the values that a run leaves are those after the ones that it used
-pub run-left : (r : Place Value) (is : List Item) (u : Place Value) (o : Output) → writing r is ≡ accepted (u, o) → Left r is u o
-run-left = by-steps writeItem nothing _⊕_ Left (λ r. refl) left-item
+pub run-left : (r : Place Value) (is : List (Checked Op)) (u : Place Value) (o : Output) → writing r is ≡ accepted (u, o) → Left r is u o
+run-left = by-steps writeOp nothing _⊕_ Left (λ r. refl) left-item
 
 -- what an accepted call went through
 pub record Packed (s : State) (f l : List ℕ) (r : Place Value × Output) : Type 0 where
   pub vs : List Value
   pub sound : Sound s
   pub list : values l ≡ accepted vs
-  pub run : write s vs f ≡ accepted r
+  pub run : write options s vs f ≡ accepted r
 
 pub packed : (s : State) (f l : List ℕ) (r : Place Value × Output) → pack s f l ≡ accepted r → Packed s f l r
 unfolding pack
 packed s f l r e =
-    let p = passed (isPower (s .limit) && atMost63 (s .length)) 21 (values l >>= λ vs. write s vs f) e in
-    let b = bound (values l) (λ vs. write s vs f) (p .1) in
+    let p = passed (isPower (s .limit) && atMost63 (s .length)) 21 (values l >>= λ vs. write options s vs f) e in
+    let b = bound (values l) (λ vs. write options s vs f) (p .1) in
     record { vs = b .val; sound = p .0; list = b .is; run = b .rest }
 
 -- the state and the list's rest that an accepted call leaves: sound, and with the values that are left
 pub next-sound : (s : State) (f l : List ℕ) (r : Place Value × Output) (p : Packed s f l r) → Sound (r .0 .state)
-next-sound s f l r p = run-sound (place s (p .vs)) (items f) (r .0) (r .1) (p .run) (p .sound)
+next-sound s f l r p = run-sound (place s (p .vs)) (ops options f) (r .0) (r .1) (p .run) (ops-valid options options-sizes f) (p .sound)
 
 pub next-values : (s : State) (f l : List ℕ) (r : Place Value × Output) (p : Packed s f l r) → values (fieldsAfter (length (r .1 .took)) l) ≡ accepted (r .0 .left)
-next-values s f l r p = values-after (length (r .1 .took)) l (p .vs) (p .list) ∙ ap accepted (sym (run-left (place s (p .vs)) (items f) (r .0) (r .1) (p .run)))
+next-values s f l r p = values-after (length (r .1 .took)) l (p .vs) (p .list) ∙ ap accepted (sym (run-left (place s (p .vs)) (ops options f) (r .0) (r .1) (p .run)))
 
 -- ---- continued writing in a buffer
 
@@ -195,8 +194,8 @@ refused-bind : {A B : Type 0} (c : Checked A) (g : A → B) (k : ℕ) → (c >>=
 refused-bind (refused j) g k e = ap refused (same-number e)
 refused-bind (accepted a) g k e = absurd (never (sym e))
 
-room-of : {A B : Type 0} (c : Checked A) (g : A → B × List ℕ) → Below 22 c → Room (λ b. into b (c >>= λ a. accepted (g a)))
-room-of c g h = into-room (c >>= λ a. accepted (g a)) (λ e. below-not 22 c h (refused-bind c g 22 e))
+room-of : {A B : Type 0} (c : Checked A) (g : A → B × List ℕ) → ByCall c → Room (λ b. into b (c >>= λ a. accepted (g a)))
+room-of c g h = into-room (c >>= λ a. accepted (g a)) (λ e. refuses-not _ 22 c (λ x. x) h (refused-bind c g 22 e))
 
 pack-room : (f l : List ℕ) → Room (stringPack f l)
 unfolding stringPack
@@ -208,7 +207,7 @@ continued-room s f l = room-of (pack s f l) (λ r. (continuedOf r, recordOf (r .
 
 unpack-room : (f d : List ℕ) (p : ℤ) → Room (stringUnpack f d p)
 unfolding stringUnpack
-unpack-room f d p = room-of (unpack f d p) (λ r. (unpackedOf r, listOf (r .0))) (low-unpack f d p)
+unpack-room f d p = room-of (unpack f d p) (λ r. (unpackedOf r, listRead (r .0))) (low-unpack f d p)
 
 pub rooms : Rooms
 rooms = record { packs = pack-room; continues = continued-room; reads = unpack-room }
@@ -221,8 +220,8 @@ returned s f l b a e g c r =
     let q = bound (pack s f l) (λ r. accepted (continuedOf r, recordOf (r .1))) (i .1) in
     let p = packed s f l (q .val) (q .is) in
     let next : continuedOf (q .val) ≡ a = ap (λ (x : Continued × List ℕ). x .0) (same (q .rest)) in
-    let run : pack (q .val .0 .state) g (fieldsAfter (length (q .val .1 .took)) l) ≡ write (q .val .0 .state) (q .val .0 .left) g
+    let run : pack (q .val .0 .state) g (fieldsAfter (length (q .val .1 .took)) l) ≡ write options (q .val .0 .state) (q .val .0 .left) g
     = pack-run (q .val .0 .state) g _ (q .val .0 .left) (next-sound s f l (q .val) p) (next-values s f l (q .val) p) in
-    let no : pack (q .val .0 .state) g (fieldsAfter (length (q .val .1 .took)) l) ≡ refused 21 → ⊥ = λ n. below-not 21 (write (q .val .0 .state) (q .val .0 .left) g) (low-writing _ (items g)) (sym run ∙ n) in
+    let no : pack (q .val .0 .state) g (fieldsAfter (length (q .val .1 .took)) l) ≡ refused 21 → ⊥ = λ n. refuses-not _ 21 (write options (q .val .0 .state) (q .val .0 .left) g) (λ x. x) (low-writing _ (ops options g) (low-ops options g)) (sym run ∙ n) in
     let x : pack (a .next) g (fieldsAfter (a .used) l) ≡ refused 21 = refused-bind (pack (a .next) g (fieldsAfter (a .used) l)) _ 21 (into-refused c _ 21 (λ h. omega arith) r) in
     no (ap (λ (y : Continued). pack (y .next) g (fieldsAfter (y .used) l)) next ∙ x)

@@ -7,12 +7,12 @@ use mathlib.Core.List.{List, [], _∷_, map, append-assoc, append-nil}
 use lib.Dec.{leb}
 use lib.ListN.{length, take, length-append}
 use Rattle.definition.specs.Answers.{Checked, refused, accepted, _>>=_, after}
-use Rattle.definition.specs.Items.{items}
-use Rattle.definition.specs.Ops.{isPower}
+use Rattle.definition.specs.Options.{options}
+use Rattle.definition.specs.Ops.{ops, isPower}
 use Rattle.definition.specs.Values.{Value}
 use Rattle.definition.specs.Lists.{values, fieldsAfter}
 use Rattle.definition.specs.States.{start}
-use Rattle.definition.specs.Writing.{zeroed, Output, nothing, _⊕_, Place, place, writeItem, write}
+use Rattle.definition.specs.Writing.{zeroed, Output, nothing, _⊕_, Place, place, writeOp, write}
 use Rattle.definition.specs.declared.Continued.{Continued}
 use Rattle.definition.specs.Calls.{Call, call, into, atMost63, pack, recordOf, continuedOf, packContinued, stringPack}
 use Rattle.definition.specs.Claims.{LongEnough, gives, Divides, Total, totalOf, joinedTo, inTurn}
@@ -46,7 +46,7 @@ totals s l [] = accepted (none s)
 totals s l (p ∷ ps) = total s p l >>= λ t. totals (t .next) (fieldsAfter (t .used) l) ps >>= λ u. accepted (joinedTo t u)
 
 abbrev writeParts : Place Value → List (List ℕ) → Checked (Place Value × Output)
-writeParts r ps = runs writeItem nothing _⊕_ r (map items ps)
+writeParts r ps = runs writeOp nothing _⊕_ r (map (ops options) ps)
 
 join : (u w : Place Value) (o q : Output) → totalOfRun (w, o ⊕ q) ≡ joinedTo (totalOfRun (u, o)) (totalOfRun (w, q))
 join u w o q = λ i. record { next = w .state; bytes = map-append zeroed (o .cells) (q .cells) i; used = length-append (o .took) (q .took) i; items = o .items + q .items }
@@ -54,18 +54,18 @@ join u w o q = λ i. record { next = w .state; bytes = map-append zeroed (o .cel
 -- the runs over the parts are the parts' calls: a returned state and the list's rest lead on
 parts-total : (ps : List (List ℕ)) (s : State) (l : List ℕ) (vs : List Value) → Sound s → values l ≡ accepted vs → (writeParts (place s vs) ps >>= λ r. accepted (totalOfRun r)) ≡ totals s l ps
 parts-total [] s l vs h e = refl
-parts-total (p ∷ ps) s l vs h e = rw (pack-run s p l vs h e) (go (write s vs p) refl (parts-total ps))
+parts-total (p ∷ ps) s l vs h e = rw (pack-run s p l vs h e) (go (write options s vs p) refl (parts-total ps))
   where
-    go : (c : Checked (Place Value × Output)) → write s vs p ≡ c
+    go : (c : Checked (Place Value × Output)) → write options s vs p ≡ c
         → ((s : State) (l : List ℕ) (vs : List Value) → Sound s → values l ≡ accepted vs → (writeParts (place s vs) ps >>= λ r. accepted (totalOfRun r)) ≡ totals s l ps)
-        → (c >>= (λ r. after writeItem nothing _⊕_ (r .1) (writeParts (r .0) ps)) >>= λ r. accepted (totalOfRun r))
+        → (c >>= (λ r. after writeOp nothing _⊕_ (r .1) (writeParts (r .0) ps)) >>= λ r. accepted (totalOfRun r))
         ≡ (c >>= (λ r. accepted (totalOfRun r)) >>= λ t. totals (t .next) (fieldsAfter (t .used) l) ps >>= λ u. accepted (joinedTo t u))
     go (refused k) w ih = refl
     go (accepted r) w ih =
         let q : Packed s p l r = record { vs = vs; sound = h; list = e; run = w } in
         rw (← ih (r .0 .state) (fieldsAfter (length (r .1 .took)) l) (r .0 .left) (next-sound s p l r q) (next-values s p l r q)) (last (writeParts (r .0) ps))
       where
-        last : (c : Checked (Place Value × Output)) → (after writeItem nothing _⊕_ (r .1) c >>= λ q. accepted (totalOfRun q)) ≡ (c >>= (λ q. accepted (totalOfRun q)) >>= λ u. accepted (joinedTo (totalOfRun r) u))
+        last : (c : Checked (Place Value × Output)) → (after writeOp nothing _⊕_ (r .1) c >>= λ q. accepted (totalOfRun q)) ≡ (c >>= (λ q. accepted (totalOfRun q)) >>= λ u. accepted (joinedTo (totalOfRun r) u))
         last (refused k) = refl
         last (accepted q) = ap accepted (join (r .0) (q .0) (r .1) (q .1))
 
@@ -75,7 +75,7 @@ unfolding pack
 total-parts s f l p ps d = state (isPower (s .limit) && atMost63 (s .length)) refl
   where
     list : (c : Checked (List Value)) → Sound s → values l ≡ c → total s f l ≡ totals s l (p ∷ ps)
-    list (accepted vs) h e = ap (λ (c : Checked (Place Value × Output)). c >>= λ r. accepted (totalOfRun r)) (pack-run s f l vs h e ∙ cut-anywhere writeItem nothing _⊕_ nothing-left join-assoc (place s vs) f (p ∷ ps) d) ∙ parts-total (p ∷ ps) s l vs h e
+    list (accepted vs) h e = ap (λ (c : Checked (Place Value × Output)). c >>= λ r. accepted (totalOfRun r)) (pack-run s f l vs h e ∙ cut-anywhere writeOp nothing _⊕_ nothing-left join-assoc (place s vs) f (p ∷ ps) d) ∙ parts-total (p ∷ ps) s l vs h e
     list (refused k) h e = rw (h, e)
 
     state : (t : Bool) → (isPower (s .limit) && atMost63 (s .length)) ≡ t → total s f l ≡ totals s l (p ∷ ps)

@@ -10,17 +10,20 @@ use lib.ListN.{length, length-append}
 use lib.Seq.{drop-at}
 use borrow.Author.Tests.{le-leb}
 use Rattle.definition.specs.Answers.{refused, accepted, _>>=_}
-use Rattle.definition.specs.Items.{items}
+use Rattle.definition.specs.Options.{options}
+use Rattle.definition.specs.Ops.{ops}
 use Rattle.definition.specs.Values.{Value}
 use Rattle.definition.specs.Lists.{listOf}
 use Rattle.definition.specs.States.{start}
 use Rattle.definition.specs.Writing.{zeroed, Output, output, Place, place}
-use Rattle.definition.specs.Reading.{offset, positionOf, read}
-use Rattle.definition.specs.Calls.{into, pack, recordOf, stringPack, unpack, unpackedOf, stringUnpack}
+use Rattle.definition.specs.Reading.{offset, positionOf}
+use Rattle.definition.specs.Calls.{into, pack, recordOf, stringPack, stringUnpack}
 use Rattle.definition.specs.Claims.{LongEnough, gives, outputOf, written, packedBytes, keep, keptList, Holds, hasOpen, Readable, Agreement, Demand}
 use Rattle.definition.proofs.Answers.{never, bound}
 use Rattle.definition.proofs.Cells.{holds-length}
 use Rattle.definition.proofs.Lists.{values-held, values-of}
+use Rattle.definition.proofs.Ops.{options-sizes, ops-valid}
+use Rattle.definition.proofs.Traces.{unpackValues, listed, unpack-values}
 use Rattle.definition.proofs.ReadBack.{Given, read-back, kept-took, write-again, kept-held}
 use Rattle.definition.proofs.Size.{size-measured}
 use Rattle.definition.proofs.Cutting.{cuts, plain-is}
@@ -32,25 +35,24 @@ module _ (f l : List ℕ) (r : Place Value × Output) (e : pack start f l ≡ ac
   output-is : written f l ≡ r .1
   output-is = ap outputOf e
 
-  given : Readable f l → Given (place start (p .vs)) (items f) (r .1)
-  given g = record { short = g .short; held = values-held l (p .vs) (g .bytes) (p .list); integers = rw output-is at (g .integers) }
+  given : Readable f l → Given (place start (p .vs)) (ops options f) (r .1)
+  given g = record { valid = ops-valid options options-sizes f; short = g .short; held = values-held l (p .vs) (g .bytes) (p .list); integers = rw output-is at (g .integers) }
 
   reads : Readable f l → (front held rest : List ℕ) → length front % 16 ≡ 0 → Holds (r .1 .cells) held → length (front ++ (held ++ rest)) ≤ 2 ^ 63 - 1
-      → unpack f (front ++ (held ++ rest)) (pos (length front + 1)) ≡ accepted (map keep (r .1 .took), positionOf (offset (length front + length held)))
-  unfolding unpack read
+      → unpackValues f (front ++ (held ++ rest)) (pos (length front + 1)) ≡ accepted (map keep (r .1 .took), positionOf (offset (length front + length held)))
   reads g front held rest near m n =
       let d : List ℕ = front ++ (held ++ rest) in
       let fits : leb (length d) (2 ^ 63 - 1) ≡ true = le-leb (length d) (2 ^ 63 - 1) n in
       let one : leb 1 (length front + 1) ≡ true = le-leb 1 (length front + 1) (omega arith) in
       let end : leb (length front + 1) (length d + 1) ≡ true = le-leb (length front + 1) (length d + 1) (omega (arith, length-append front (held ++ rest))) in
       let i : length front + 1 - 1 ≡ length front = omega arith in
-      rw (fits, one, end, i, drop-at front (held ++ rest) (length front) refl, read-back (place start (p .vs)) (items f) (r .0) (r .1) (p .run) (given g) (length front) held rest near m)
+      rw (fits, one, end, i, drop-at front (held ++ rest) (length front) refl, read-back (place start (p .vs)) (ops options f) (r .0) (r .1) (p .run) (given g) (length front) held rest near m)
 
   -- the kept values, as a list, are read as these values, and writing them gives the same bytes
   again : Readable f l → pack start f (listOf (map keep (r .1 .took))) ≡ accepted (place (r .0 .state) [], output (r .1 .cells) (map kept-took (r .1 .took)) (r .1 .items))
   again g =
-      pack-run start f (listOf (map keep (r .1 .took))) (map keep (r .1 .took)) start-sound (values-of (map keep (r .1 .took)) (kept-held (place start (p .vs)) (items f) (r .0) (r .1) (p .run) (given g)))
-      ∙ (rw append-nil at (write-again (place start (p .vs)) (items f) (r .0) (r .1) (p .run) (given g) []))
+      pack-run start f (listOf (map keep (r .1 .took))) (map keep (r .1 .took)) start-sound (values-of (map keep (r .1 .took)) (kept-held (place start (p .vs)) (ops options f) (r .0) (r .1) (p .run) (given g)))
+      ∙ (rw append-nil at (write-again (place start (p .vs)) (ops options f) (r .0) (r .1) (p .run) (given g) []))
 
   bytes-are : packedBytes f l ≡ recordOf (r .1)
   bytes-are = ap recordOf output-is
@@ -71,15 +73,16 @@ module _ (f l : List ℕ) (r : Place Value × Output) (e : pack start f l ≡ ac
       go ∙ ap (λ (n : ℕ). gives n (recordOf (q .1)) b) (sym (length-record (q .1))) ∙ ap (λ (s : List ℕ). gives (length s) s b) (ap (map zeroed) c ∙ sym bytes-are)
 
   agree : (b : List ℕ) → LongEnough (stringPack f l b .answer) → Agreement f l b
-  unfolding stringUnpack
   agree b long = record {
     wrote = fills l r b e refl long;
-    size = size-measured f (p .vs) (r .0) (r .1) (p .run) ∙ ap (λ (n : ℕ). cond (hasOpen (items f)) (refused 10) (accepted n)) (sym length-is);
+    size = size-measured options f (p .vs) (r .0) (r .1) (p .run) ∙ ap (λ (n : ℕ). cond (hasOpen (ops options f)) (refused 10) (accepted n)) (sym length-is);
     back = λ g front held rest b near m n long.
         let m′ : Holds (r .1 .cells) held = rw output-is at m in
         let i = reads g front held rest near m′ n in
         let l′ : length held ≡ length (packedBytes f l) = holds-length (r .1 .cells) held m′ ∙ sym length-is in
-        rw (list-is, ← l′) (rw i (into-long b (unpackedOf (map keep (r .1 .took), positionOf (offset (length front + length held)))) (listOf (map keep (r .1 .took))) (rw i at long)));
+        let answer = listed (map keep (r .1 .took), positionOf (offset (length front + length held))) in
+        let is : stringUnpack f (front ++ (held ++ rest)) (pos (length front + 1)) b ≡ into b (accepted answer) = unpack-values f (front ++ (held ++ rest)) (pos (length front + 1)) b ∙ rw i in
+        rw (list-is, ← l′) (is ∙ into-long b (answer .0) (answer .1) (rw is at long));
     again = λ g b long.
         fills (keptList f l) (place (r .0 .state) [], output (r .1 .cells) (map kept-took (r .1 .took)) (r .1 .items)) b (ap (pack start f) list-is ∙ again g) refl long;
   }

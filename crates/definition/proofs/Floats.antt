@@ -1,12 +1,12 @@
 -- A value's integer and number have 64 bits.
-use Prim.Native.Nat.{ℕ, _+_, _*_, _/_, _%_, _^_, _<_}
-use mathlib.Core.Path.{_≡_, refl, sym, ap, _∙_, subst}
-use mathlib.Core.Bool.{Bool, true, false, _&&_, cond}
-use mathlib.Core.Option.{Option, none, some}
+use Prim.Native.Nat.{ℕ, _*_, _/_, _%_, _^_, _<_}
+use mathlib.Core.Path.{_≡_, refl, subst}
+use mathlib.Core.Bool.{Bool, true, false, cond}
+use mathlib.Core.Option.{none, some}
 use native.Mathlib.Omega.{arith}
 use lib.Dec.{ltb, eqb}
 use lib.IntN.{ℤ}
-use lib.Ieee.{Float, nan, inf, fin, binary64, up, down, ofBits, ofInt, toBits}
+use lib.Ieee.{Float, nan, inf, fin, binary64, up, down, ofBits, ofInt}
 use lib.Ieee.Fits.{ofInt-fits}
 use lib.Ieee.Bits.{toBits-lt}
 use borrow.Author.Tests.{ltb-true}

@@ -1,6 +1,7 @@
 pub mod Answers
 pub mod Items
 pub mod Parts
+pub mod Traces
 pub mod Cells
 pub mod Bytes
 pub mod Lists

@@ -1,13 +1,14 @@
--- Every call refuses by a number of document 01's list, 1 to 22.
+-- Every call refuses by a number of the list.
 use Prim.Native.Nat.{ℕ}
-use native.Mathlib.Omega.{arith}
-use mathlib.Core.Path.{sym}
+use mathlib.Core.Path.{sym, subst}
 use mathlib.Core.Bool.{Bool, true, false, cond}
-use mathlib.Core.List.{List}
-use lib.Dec.{leb}
+use mathlib.Core.List.{List, _∷_}
+use lib.Dec.{T, leb}
 use lib.IntN.{ℤ}
 use lib.ListN.{length}
 use Rattle.definition.specs.Answers.{Checked, refused, accepted}
+use Rattle.definition.specs.Refusals.{refusals, among}
+use Rattle.definition.specs.Options.{options}
 use Rattle.definition.specs.Measuring.{measure}
 use Rattle.definition.specs.Bound.{bound}
 use Rattle.definition.specs.States.{start}
@@ -15,27 +16,34 @@ use Rattle.definition.specs.Calls.{Call, atMost63, into, stringPacksize,
 use Rattle.definition.specs.Claims.{Listed, Numbered}
 use Rattle.definition.specs.declared.State.{State}
 use Rattle.definition.proofs.Answers.{never, same-number}
-use Rattle.definition.proofs.Refusals.{Below, low, fine, low-bind, low-check, low-up, within, up, low-measure, low-bound, low-pack, low-unpack}
+use Rattle.definition.proofs.Refusals.{Refuses, items-give, ByCall, low, fine, low-bind, low-check, low-up, among-all, low-measure, low-bound, low-pack, low-unpack}
 
-listed : {A : Type 0} (c : Checked A) → Below 23 c → Listed c
-listed (refused j) (low h) k e = let i = same-number e in let w = within j 23 h in (omega arith, omega arith)
+listed : {A : Type 0} (c : Checked A) → Refuses (among refusals) c → Listed c
+listed (refused j) (low h) k e = subst (λ (x : ℕ). T (among refusals x)) (same-number e) h
 listed (accepted a) h k e = absurd (never (sym e))
+
+-- of a call, but for its result buffer, and of items
+of-call : (k : ℕ) → T (among (16 ∷ 21 ∷ items-give) k) → T (among refusals k)
+of-call = among-all refusals (16 ∷ 21 ∷ items-give) tt
+
+of-item : (k : ℕ) → T (among items-give k) → T (among refusals k)
+of-item = among-all refusals items-give tt
 
 either : {A : Type 0} (t : Bool) (x y : Call A) → Listed (x .answer) → Listed (y .answer) → Listed (cond t x y .answer)
 either true x y g h = g
 either false x y g h = h
 
 -- of what a call puts into a lent buffer
-listed-into : {A : Type 0} (b : List ℕ) (c : Checked (A × List ℕ)) → Below 22 c → Listed (into b c .answer)
-listed-into b (refused j) (low h) = listed (refused j) (low (up j 22 23 (omega arith) h))
+listed-into : {A : Type 0} (b : List ℕ) (c : Checked (A × List ℕ)) → ByCall c → Listed (into b c .answer)
+listed-into b (refused j) (low h) = listed (refused j) (low (of-call j h))
 listed-into b (accepted r) h = either (leb (length (r .1)) (length b)) _ _ (listed (accepted (r .0)) fine) (listed (refused 22) (low tt))
 
 listed-size : (f : List ℕ) → Listed (stringPacksize f)
-listed-size f = listed (measure f) (low-up (measure f) (λ k. up k 21 23 (omega arith)) (low-measure f))
+listed-size f = listed (measure options f) (low-up (measure options f) of-item (low-measure options f))
 
 listed-bound : (f : List ℕ) (d : ℕ) → Listed (listBound f d)
 unfolding listBound
-listed-bound f d = listed _ (low-check (atMost63 d) 21 (bound f d) tt (low-up (bound f d) (λ k. up k 21 23 (omega arith)) (low-bound f d)))
+listed-bound f d = listed _ (low-check (atMost63 d) 21 (bound options f d) tt (low-up (bound options f d) of-item (low-bound options f d)))
 
 listed-pack : (f l b : List ℕ) → Listed (stringPack f l b .answer)
 unfolding stringPack

@@ -6,11 +6,11 @@ use mathlib.Core.List.{List}
 use mathlib.Core.Option.{Option, none, some}
 use native.Mathlib.Nat.{mod-eq-of-lt, mod-lt, mod-mod, lt-of-lt-of-le}
 use native.Mathlib.Omega.{arith}
-use lib.Dec.{T, leb, ltb, eqb, leb→le, ltb→lt, eqb→eq, lit<, lit≤}
+use lib.Dec.{T, leb, ltb, eqb, leb→le, ltb→lt, eqb→eq, lit≤}
 use lib.IntN.{ℤ, pos, negsuc}
 use lib.ListN.{replicate}
 use borrow.Author.Tests.{leb-true, ltb-true}
-use Rattle.single.specs.Single.{toSingle, fromSingle}
+use Rattle.single.specs.Single.{toSingle}
 use Rattle.single.proofs.Rounding.{single-lt}
 use Rattle.single.proofs.Widening.{double-lt}
 use Rattle.single.proofs.Back.{single-again}
@@ -22,7 +22,6 @@ use Rattle.definition.specs.Fields.{inSigned, inUnsigned, floatBy, integ
 use Rattle.definition.specs.Claims.{isSome, integerForJ}
 use Rattle.definition.specs.declared.Kind.{Kind}
 use Rattle.definition.specs.declared.Kind.the-variants.{SmallSigned, SmallUnsigned, Signed, Unsigned, LuaInteger, LuaUnsigned, Size, Single, Double}
-use Rattle.definition.specs.declared.Field.{Field}
 use Rattle.definition.specs.declared.Field.the-variants.{Number}
 use Rattle.definition.proofs.Answers.{never, same, bound, passed, found, true-not-false}
 use Rattle.definition.proofs.Bytes.{pow-pos, pow-le, length-coded, number-coded, all-replicate, bits-signed, bits-eight, signed-low, signed-bits, coded-same, bits-lt, extent-signed}

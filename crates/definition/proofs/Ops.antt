@@ -2,26 +2,21 @@
 use Prim.Native.Nat.{ℕ}
 use mathlib.Core.Path.{_≡_, refl, sym, subst}
 use mathlib.Core.Bool.{Bool, true, false, _&&_, _||_, cond}
-use mathlib.Core.List.{List, [], _∷_}
+use mathlib.Core.List.{List, [], _∷_, map}
 use lib.Dec.{T, leb, eqb, eqb→eq}
-use Rattle.definition.specs.Answers.{Checked, refused, accepted, _>>=_, _>>_, require}
-use Rattle.definition.specs.Options.{options, find, entryOf}
-use Rattle.definition.specs.Items.{Item, numeralOf}
-use Rattle.definition.specs.Ops.{opOf, opBy, opWith, naturalOf, sizeOr, limitOr, needed, valueOr, within16, isPower}
-use Rattle.definition.specs.declared.Class.{Class}
-use Rattle.definition.specs.declared.Class.the-variants as Class
+use Rattle.definition.specs.Answers.{Checked, accepted, _>>_, require}
+use Rattle.definition.specs.Options.{entryList, find, Table, options, Class, NumeralRule, Nothing, Digits, DigitsBehindX, NextByte, Entry}
+use Rattle.definition.specs.Items.{Item, items, numeralOf, Numeral, Missing}
+use Rattle.definition.specs.Ops.{opOf, ops, opBy, opWith, naturalOf, sizeOr, limitOr, needed, valueOr, within16, isPower}
+use Rattle.definition.specs.Options as Class
 use Rattle.definition.specs.declared.Kind.{Kind}
 use Rattle.definition.specs.declared.Kind.the-variants.{SmallSigned, SmallUnsigned, Signed, Unsigned, LuaInteger, LuaUnsigned, Size, Single, Double}
-use Rattle.definition.specs.declared.NumeralRule.{NumeralRule}
-use Rattle.definition.specs.declared.NumeralRule.the-variants.{Nothing, Digits, DigitsBehindX, NextByte}
-use Rattle.definition.specs.declared.Entry.{Entry}
-use Rattle.definition.specs.declared.Numeral.{Numeral}
-use Rattle.definition.specs.declared.Numeral.the-variants.{Missing}
 use Rattle.definition.specs.declared.Field.the-variants.{Number, Chars, Counted}
 use Rattle.definition.specs.declared.Setting.{Setting}
 use Rattle.definition.specs.declared.Setting.the-variants as Setting
 use Rattle.definition.specs.declared.Op.{Op}
 use Rattle.definition.specs.declared.Op.the-variants as Op
+use Rattle.definition.specs.Claims.{All}
 use Rattle.definition.proofs.Answers.{never, same, bound, passed}
 use Rattle.definition.proofs.Numbers.{validSize}
 use Rattle.definition.proofs.Fields.{validField}
@@ -39,6 +34,10 @@ power-cases P p1 p2 p4 p8 p16 a = or 1 _ p1 (or 2 _ p2 (or 4 _ p4 (or 8 _ p8 (is
         go : (x : Bool) → eqb a k ≡ x → (x || t) ≡ true → P a
         go true e h = is k p e
         go false e h = f h
+
+pub and-parts : (a b : Bool) → T (a && b) → T a × T b
+and-parts true b h = (tt, h)
+and-parts false b h = absurd h
 
 abbrev pub validSetting : Setting → Bool
 validSetting (Setting.Order o) = true
@@ -62,26 +61,26 @@ anySize Size = false
 anySize Single = false
 anySize Double = false
 
--- a number option has its own size, or takes a numeral and has any
+-- a number option has its own size, or takes a numeral and has any; the size without a numeral is one of 1 to 16
 abbrev sizesOk : NumeralRule → Kind → ℕ → Bool
 sizesOk Nothing k n = validSize k n
 sizesOk Digits k n = anySize k
 sizesOk DigitsBehindX k n = validSize k n
 sizesOk NextByte k n = true
 
-abbrev entryOk : Class → NumeralRule → ℕ → Bool
+abbrev pub entryOk : Class → NumeralRule → ℕ → Bool
 entryOk Class.NoOption r n = true
 entryOk Class.Blank r n = true
 entryOk (Class.Order o) r n = true
 entryOk Class.Limit r n = true
-entryOk (Class.Number k) r n = sizesOk r k n
+entryOk (Class.Number k) r n = within16 n && sizesOk r k n
 entryOk Class.Chars r n = true
 entryOk Class.ZeroEnded r n = true
-entryOk Class.Counted r n = true
+entryOk Class.Counted r n = within16 n
 entryOk Class.Fill r n = true
 entryOk Class.Align r n = true
 
-abbrev ok : Entry → Bool
+abbrev pub ok : Entry → Bool
 ok e = entryOk (e .class) (e .rule) (e .size)
 
 abbrev every : (Entry → Bool) → List (ℕ × Entry) → Bool
@@ -99,10 +98,13 @@ find-every p b (e ∷ es) none all = go (eqb b (e .0)) (p (e .1)) refl all (find
     go false true i all ih = ih all
     go false false i all ih = absurd all
 
--- the table's rule, by one test over it
-entry-ok : (b : ℕ) → T (ok (entryOf b))
-unfolding options entryOf
-entry-ok b = find-every ok b options tt tt
+-- a table's rule, and the option table by one test over its entries
+abbrev pub Sizes : Table → Type 0
+Sizes t = (b : ℕ) → T (ok (t b))
+
+pub options-sizes : Sizes options
+unfolding entryList options
+options-sizes b = find-every ok b entryList tt tt
 
 size-within : (d : ℕ) (m : Numeral) (n : ℕ) → sizeOr d m ≡ accepted n → T (within16 n)
 size-within d m n e =
@@ -158,17 +160,27 @@ missing-size d n e = same (passed (within16 d) 3 (accepted d) e .1)
 
 own-size : (c : Class) (r : NumeralRule) (d : ℕ) → ((k : Kind) → T (sizesOk r k d) → T (validSize k d)) → T (entryOk c r d) → SizeOk c d Missing
 own-size c r d f h k e n s =
-    let g : T (sizesOk r k d) = subst (λ (x : Class). T (entryOk x r d)) e h in
+    let g : T (sizesOk r k d) = and-parts (within16 d) (sizesOk r k d) (subst (λ (x : Class). T (entryOk x r d)) e h) .1 in
     subst (λ (x : ℕ). T (validSize k x)) (missing-size d n s) (f k g)
 
-by-rule : (r : NumeralRule) (e : Entry) (s : List ℕ) (o : Op) → T (entryOk (e .class) r (e .size)) → opWith r e s ≡ accepted o → T (validOp o)
-by-rule Nothing e s o h i = by-class (e .class) (e .size) Missing o (own-size (e .class) Nothing (e .size) (λ k g. g) h) i
-by-rule Digits e s o h i =
-    by-class (e .class) (e .size) (numeralOf s) o (λ k c n m. any-size k n (subst (λ (x : Class). T (entryOk x Digits (e .size))) c h) (size-within (e .size) (numeralOf s) n m)) i
-by-rule DigitsBehindX e s o h i = by-class (e .class) (e .size) Missing o (own-size (e .class) DigitsBehindX (e .size) (λ k g. g) h) i
-by-rule NextByte e s o h i = subst Good (same (bound (naturalOf s) (λ n. accepted (Op.Pad n 0)) i .rest)) tt
+by-rule : (t : Table) (r : NumeralRule) (e : Entry) (s : List ℕ) (o : Op) → T (entryOk (e .class) r (e .size)) → opWith t r e s ≡ accepted o → T (validOp o)
+by-rule t Nothing e s o h i = by-class (e .class) (e .size) Missing o (own-size (e .class) Nothing (e .size) (λ k g. g) h) i
+by-rule t Digits e s o h i =
+    by-class (e .class) (e .size) (numeralOf s) o (λ k c n m. any-size k n (and-parts (within16 (e .size)) (anySize k) (subst (λ (x : Class). T (entryOk x Digits (e .size))) c h) .1) (size-within (e .size) (numeralOf s) n m)) i
+by-rule t DigitsBehindX e s o h i = by-class (e .class) (e .size) Missing o (own-size (e .class) DigitsBehindX (e .size) (λ k g. g) h) i
+by-rule t NextByte e s o h i = subst Good (same (bound (naturalOf t s) (λ n. accepted (Op.Pad n 0)) i .rest)) tt
 
 -- each checked item has a size that its option has, and a limit that is a power of two
-pub op-valid : (i : Item) (o : Op) → opOf i ≡ accepted o → T (validOp o)
+abbrev pub Valid : Checked Op → Type 0
+Valid c = (o : Op) → c ≡ accepted o → T (validOp o)
+
+pub op-valid : (t : Table) → Sizes t → (i : Item) → Valid (opOf t i)
 unfolding opOf
-op-valid i o e = by-rule (entryOf (i .byte) .rule) (entryOf (i .byte)) (i .more) o (entry-ok (i .byte)) e
+op-valid t h i o e = by-rule t (t (i .byte) .rule) (t (i .byte)) (i .more) o (h (i .byte)) e
+
+pub ops-valid : (t : Table) → Sizes t → (f : List ℕ) → All Valid (ops t f)
+ops-valid t h f = go (items t f)
+  where
+    go : (is : List Item) → All Valid (map (opOf t) is)
+    go [] = tt
+    go (i ∷ is) = (op-valid t h i, go is)

@@ -8,22 +8,22 @@ use lib.Count.{trailingZeros}
 use borrow.Author.Tests.{lt-leb}
 use Rattle.definition.specs.Bytes.{bytes, little, total, signed, laid}
 use Rattle.definition.specs.Lists.{listOf, fieldOf, valuesPast, fieldsAfter}
-use Rattle.definition.specs.Options.{options, entryOf}
+use Rattle.definition.specs.Options.{entryList, options}
 use Rattle.definition.specs.Items.{digits, taken, itemsPast, value, numeralOf, items}
 use Rattle.definition.specs.Ops.{opOf}
 use Rattle.definition.specs.States.{longer, alignment, padding}
 use Rattle.definition.specs.Fields.{word, encode, number, decode, kept}
-use Rattle.definition.specs.Measuring.{measureOp, measureItem, measure}
-use Rattle.definition.specs.Writing.{writeField, writeOp, writeItem}
-use Rattle.definition.specs.Reading.{readField, readOp, readItem, read}
+use Rattle.definition.specs.Measuring.{measureOp, measure}
+use Rattle.definition.specs.Writing.{writeField, writeOp}
+use Rattle.definition.specs.Reading.{readField, readOp, read}
 use Rattle.definition.specs.Program.{decimalIn}
 use Rattle.definition.specs.Calls.{pack, packContinued, stringPack, unpack, stringUnpack}
 use Rattle.definition.specs.Claims.{inTurn}
 use Rattle.definition.specs.Premises.{Needed, Divided}
 
 pub needed : Needed
-unfolding little total signed laid listOf fieldOf valuesPast fieldsAfter options entryOf digits taken itemsPast value numeralOf opOf longer alignment padding
-    word encode number decode kept measureOp measureItem measure writeField writeOp writeItem readField readOp readItem read pack packContinued stringPack unpack stringUnpack inTurn decimalIn
+unfolding little total signed laid listOf fieldOf valuesPast fieldsAfter entryList options digits taken itemsPast value numeralOf opOf longer alignment padding
+    word encode number decode kept measureOp measure writeField writeOp readField readOp read pack packContinued stringPack unpack stringUnpack inTurn decimalIn
     ofBits toBits ofInt ofFields odd round nanBits size span climb units trailingZeros
 needed = record {
   refused-writing = (refl, refl, refl);
@@ -46,9 +46,9 @@ needed = record {
 }
 
 pub divided : Divided
-unfolding little total signed laid listOf fieldOf valuesPast fieldsAfter options entryOf digits taken itemsPast value numeralOf opOf longer alignment padding word encode writeField writeOp writeItem pack packContinued inTurn
+unfolding little total signed laid listOf fieldOf valuesPast fieldsAfter entryList options digits taken itemsPast value numeralOf opOf longer alignment padding word encode writeField writeOp pack packContinued inTurn
 divided = record {
-  parts = record { groups = items (bytes "<!4 b") ∷ [] ∷ items (bytes " i") ∷ []; whole = refl; parts = refl };
+  parts = record { groups = items options (bytes "<!4 b") ∷ [] ∷ items options (bytes " i") ∷ []; whole = refl; parts = refl };
   whole = refl;
   in-turn = refl;
 }

@@ -7,24 +7,24 @@ use mathlib.Core.List.{List, _∷_}
 use lib.Dec.{leb}
 use lib.ListN.{length}
 use borrow.Author.Tests.{leb-true}
-use Rattle.definition.specs.Answers.{Checked, refused, accepted, _>>=_, _>>_, require, orElse, after}
-use Rattle.definition.specs.Items.{Item, items}
+use Rattle.definition.specs.Answers.{Checked, refused, accepted, _>>=_, orElse}
+use Rattle.definition.specs.Options.{Table}
+use Rattle.definition.specs.Ops.{ops}
 use Rattle.definition.specs.Bytes.{coded}
 use Rattle.definition.specs.Values.{Value, asBytes}
 use Rattle.definition.specs.States.{start, further, padding}
 use Rattle.definition.specs.Fields.{word, encode, filled}
-use Rattle.definition.specs.Measuring.{measurePad, measureOp, measureItem, measuring, measure, silent}
-use Rattle.definition.specs.Writing.{Output, nothing, _⊕_, Place, place, writeItem, writing, write}
+use Rattle.definition.specs.Measuring.{measurePad, measureOp, measuring, measure}
+use Rattle.definition.specs.Writing.{Output, nothing, _⊕_, Place, place, writeOp, writing, write}
 use Rattle.definition.specs.Claims.{isOpen, ofField, hasOpen}
 use Rattle.definition.specs.declared.State.{State}
 use Rattle.definition.specs.declared.Kind.{Kind}
-use Rattle.definition.specs.declared.Field.{Field}
 use Rattle.definition.specs.declared.Field.the-variants.{Number, Chars, ZeroEnded, Counted}
 use Rattle.definition.specs.declared.Op.{Op}
-use Rattle.definition.proofs.Answers.{same, bound, passed, by-steps}
+use Rattle.definition.proofs.Answers.{same, bound, passed, by-steps, silent-on}
 use Rattle.definition.proofs.Bytes.{length-coded}
 use Rattle.definition.proofs.Texts.{length-filled}
-use Rattle.definition.proofs.Steps.{Roomy, room-longer, Step, blank, sets, pads-out, puts, Ran, ran}
+use Rattle.definition.proofs.Steps.{Roomy, room-longer, Step, blank, sets, pads-out, puts, step-of}
 use Rattle.definition.proofs.ReadBack.{length-written}
 
 number-size : (o : Bool) (k : Kind) (n : ℕ) (v : Value) (bs : List ℕ) → encode o (Number k n) v ≡ accepted bs → length bs ≡ n
@@ -52,36 +52,29 @@ size-step r o t a (puts (Chars n) p s v vs bs e g l c w) = pad-size (r .state) 1
 size-step r o t a (puts ZeroEnded p s v vs bs e g l c w) = refl
 size-step r o t a (puts (Counted n) p s v vs bs e g l c w) = refl
 
-abbrev measured : Bool → State → Checked (State × Unit {0})
-measured z s = cond z (refused 10) (accepted (s, tt))
+abbrev RunSize : Place Value → List (Checked Op) → Place Value → Output → Type 0
+RunSize r is u o = measuring (r .state) is ≡ cond (hasOpen is) (refused 10) (accepted (u .state))
 
-abbrev RunSize : Place Value → List Item → Place Value → Output → Type 0
-RunSize r is u o = measuring (r .state) is ≡ measured (hasOpen is) (u .state)
-
-size-item : (r : Place Value) (i : Item) (t : Place Value) (a : Output) (is : List Item) (u : Place Value) (o : Output) → writeItem r i ≡ accepted (t, a) → RunSize t is u o → RunSize r (i ∷ is) u (a ⊕ o)
-unfolding measureItem
+size-item : (r : Place Value) (i : Op) (t : Place Value) (a : Output) (is : List (Checked Op)) (u : Place Value) (o : Output) → writeOp r i ≡ accepted (t, a) → RunSize t is u o → RunSize r (accepted i ∷ is) u (a ⊕ o)
 size-item r i t a is u o e ih =
-    let w = ran r i t a e in
-    rw (w .is, size-step r (w .op) t a (w .step)) (go (ofField isOpen false (accepted (w .op))))
+    silent-on measureOp (r .state) i is ∙ rw (size-step r i t a (step-of r i (t, a) e)) (go (ofField isOpen false (accepted i)))
   where
-    last : (y : Bool) → after measureItem tt silent tt (measured y (u .state)) ≡ measured y (u .state)
-    last true = refl
-    last false = refl
-
-    go : (x : Bool) → (_>>=_ {A = State} {B = State × Unit {0}} (cond x (refused 10) (accepted (t .state))) (λ q. accepted (q, tt)) >>= λ q. after measureItem tt silent (q .1) (measuring (q .0) is)) ≡ measured (x || hasOpen is) (u .state)
+    go : (x : Bool) → (cond x (refused 10) (accepted (t .state)) >>= λ s. measuring s is) ≡ cond (x || hasOpen is) (refused 10) (accepted (u .state))
     go true = refl
-    go false = rw ih (last (hasOpen is))
+    go false = ih
 
-run-size : (r : Place Value) (is : List Item) (u : Place Value) (o : Output) → writing r is ≡ accepted (u, o) → RunSize r is u o
-run-size = by-steps writeItem nothing _⊕_ RunSize (λ r. refl) size-item
+-- from any state
+pub size-run : (r : Place Value) (is : List (Checked Op)) (u : Place Value) (o : Output) → writing r is ≡ accepted (u, o) → RunSize r is u o
+size-run = by-steps writeOp nothing _⊕_ RunSize (λ r. refl) size-item
 
-pub size-measured : (f : List ℕ) (vs : List Value) (u : Place Value) (o : Output) → write start vs f ≡ accepted (u, o) → measure f ≡ cond (hasOpen (items f)) (refused 10) (accepted (length (o .cells)))
+pub size-measured : (t : Table) (f : List ℕ) (vs : List Value) (u : Place Value) (o : Output) → write t start vs f ≡ accepted (u, o)
+    → measure t f ≡ cond (hasOpen (ops t f)) (refused 10) (accepted (length (o .cells)))
 unfolding measure
-size-measured f vs u o e = rw (run-size (place start vs) (items f) u o e) (go (hasOpen (items f)))
+size-measured t f vs u o e = rw (size-run (place start vs) (ops t f) u o e) (go (hasOpen (ops t f)))
   where
     l : u .state .length ≡ length (o .cells)
-    l = sym (length-written (place start vs) (items f) u o e) ∙ zero-add (length (o .cells))
+    l = sym (length-written (place start vs) (ops t f) u o e) ∙ zero-add (length (o .cells))
 
-    go : (x : Bool) → _>>=_ {B = ℕ} (measured x (u .state)) (λ r. accepted (r .0 .length)) ≡ cond x (refused 10) (accepted (length (o .cells)))
+    go : (x : Bool) → _>>=_ {B = ℕ} (cond x (refused 10) (accepted (u .state))) (λ s. accepted (s .length)) ≡ cond x (refused 10) (accepted (length (o .cells)))
     go true = refl
     go false = ap accepted l

@@ -6,16 +6,15 @@ use mathlib.Core.Path.{_≡_, refl, sym, ap, _∙_, subst}
 use mathlib.Core.Bool.{true}
 use mathlib.Core.List.{List, [], _∷_, _++_, map, append-assoc}
 use lib.Dec.{T, leb}
-use lib.ListN.{length, drop, length-append, length-replicate, length-map}
+use lib.ListN.{length, length-append, length-replicate, length-map}
 use lib.Seq.{drop-at}
-use Rattle.definition.specs.Answers.{Checked, refused, accepted, _>>=_, _>>_, require}
-use Rattle.definition.specs.Items.{Item}
-use Rattle.definition.specs.Ops.{opOf, isPower}
+use Rattle.definition.specs.Answers.{accepted, _>>=_}
+use Rattle.definition.specs.Ops.{isPower}
 use Rattle.definition.specs.Values.{Value, Held}
 use Rattle.definition.specs.States.{state, set, further, longer, natural, alignment, fill, padding}
-use Rattle.definition.specs.Fields.{encode, decode, kept, first}
-use Rattle.definition.specs.Writing.{Cell, pad, byte, pads, Output, output, nothing, Place, place, taking, early, writePad, writeField, writeOp, writeItem}
-use Rattle.definition.specs.Reading.{skipped, readPad, readField, readOp}
+use Rattle.definition.specs.Fields.{encode, kept}
+use Rattle.definition.specs.Writing.{pad, byte, pads, Output, output, nothing, Place, place, taking, early, writePad, writeField, writeOp}
+use Rattle.definition.specs.Reading.{Read, valuesOf, readPad, readField, readOp}
 use Rattle.definition.specs.Claims.{Holds, All, keep, isShort, ofField, integerForJ}
 use Rattle.definition.specs.declared.State.{State}
 use Rattle.definition.specs.declared.Field.{Field}
@@ -28,7 +27,8 @@ use Rattle.definition.proofs.Bytes.{first-of}
 use Rattle.definition.proofs.Cells.{split, holds-length, holds-bytes, holds-none}
 use Rattle.definition.proofs.Texts.{Returns}
 use Rattle.definition.proofs.Fields.{field-back}
-use Rattle.definition.proofs.Ops.{power-cases, validOp, op-valid}
+use Rattle.definition.proofs.Ops.{power-cases, validOp}
+use Rattle.definition.proofs.Traces.{mapOut, readValue}
 
 -- there is room for n bytes more
 abbrev pub Roomy : State → ℕ → Type 0
@@ -84,19 +84,6 @@ step-of r (Op.Set x) q e = subst (Stepped r (Op.Set x)) (same e) (sets x)
 step-of r (Op.Pad n k) q e = pad-step r n k q e
 step-of r (Op.Put f) q e = field-step r f q e
 
--- an accepted item: what it does, and its step
-pub record Ran (r : Place Value) (i : Item) (t : Place Value) (a : Output) : Type 0 where
-  pub op : Op
-  pub is : opOf i ≡ accepted op
-  pub valid : T (validOp op)
-  pub step : Step r op t a
-
-pub ran : (r : Place Value) (i : Item) (t : Place Value) (a : Output) → writeItem r i ≡ accepted (t, a) → Ran r i t a
-unfolding writeItem
-ran r i t a e =
-    let b = bound (opOf i) (writeOp r) e in
-    record { op = b .val; is = b .is; valid = op-valid i (b .val) (b .is); step = step-of r (b .val) (t, a) (b .rest) }
-
 -- ---- padding is the same at places that are equal modulo 16
 
 -- a state at another place
@@ -123,12 +110,12 @@ pad-back s m n k p x rest h e l = rw (padding-near s m n p h e, ← l, first-of 
 
 -- at a place that is the written length modulo 16, whatever the padding holds
 abbrev ReadsBack : Place Value → Op → Place Value → Output → Type 0
-ReadsBack r o t a = (m : ℕ) (d rest : List ℕ) → Near m (r .state .length) → Holds (a .cells) d → readOp (place (placed m (r .state)) (d ++ rest)) o ≡ accepted (place (placed (m + length d) (t .state)) rest, map keep (a .took))
+ReadsBack r o t a = (m : ℕ) (d rest : List ℕ) → Near m (r .state .length) → Holds (a .cells) d → readValue (place (placed m (r .state)) (d ++ rest)) o ≡ accepted (place (placed (m + length d) (t .state)) rest, map keep (a .took))
 
 abbrev WritesAgain : Place Value → Op → Place Value → Output → Type 0
 WritesAgain r o t a = (ws : List Value) → writeOp (place (r .state) (map keep (a .took) ++ ws)) o ≡ accepted (place (t .state) ws, output (a .cells) (map (λ q. (q .0, keep q)) (a .took)) (a .items))
 
-pads-back : (s : State) (n k p m : ℕ) (d rest : List ℕ) → padding s n ≡ accepted p → Near m (s .length) → Holds (pads (p + k)) d → _>>=_ {B = Place ℕ × List Value} (readPad (place (placed m s) (d ++ rest)) n k) (λ t. accepted (t, [])) ≡ accepted (place (placed (m + length d) s) rest, [])
+pads-back : (s : State) (n k p m : ℕ) (d rest : List ℕ) → padding s n ≡ accepted p → Near m (s .length) → Holds (pads (p + k)) d → mapOut valuesOf (_>>=_ {B = Place ℕ × List Read} (readPad (place (placed m s) (d ++ rest)) n k) (λ t. accepted (t, []))) ≡ accepted (place (placed (m + length d) s) rest, [])
 pads-back s n k p m d rest e h c = rw (pad-back s m n k p d rest h e (holds-length (pads (p + k)) d c ∙ length-replicate (p + k) pad))
 
 field-reads : (r : Place Value) (f : Field) (p : ℕ) (v : Value) (bs : List ℕ) → padding (r .state) (natural f) ≡ accepted p → Returns (r .state .big) f v bs

@@ -11,7 +11,7 @@ use lib.IntN.{pos}
 use lib.ListN.{length, replicate, length-append, length-replicate}
 use lib.Seq.{drop-at}
 use borrow.Author.Tests.{ltb-true, leb-true, lt-ltb, le-leb}
-use Rattle.definition.specs.Answers.{Checked, refused, accepted, _>>=_}
+use Rattle.definition.specs.Answers.{accepted, _>>=_}
 use Rattle.definition.specs.Bytes.{low, coded}
 use Rattle.definition.specs.Values.{Value, integer, float, text, other, Held}
 use Rattle.definition.specs.Fields.{encode, decode, kept, filled, hasZero, upToZero}

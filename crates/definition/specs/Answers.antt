@@ -29,7 +29,7 @@ abbrev pub orElse : {A : Type 0} → Option A → Checked A → Checked A
 orElse (some a) c = accepted a
 orElse none c = c
 
--- "Items go left to right": a run over items. `step` takes a state over one item, to the next state and what it puts out.
+-- "Items go left to right": a run over items, each of which may be refused by itself. `step` takes a state over one item, to the next state and what it puts out.
 module _ {S I O : Type 0} (step : S → I → Checked (S × O)) (nothing : O) (_⊕_ : O → O → O) where
   infixl 60 _⊕_
   -- an answer whose output comes after o
@@ -37,6 +37,14 @@ module _ {S I O : Type 0} (step : S → I → Checked (S × O)) (nothing : O) (_
   after o (refused k) = refused k
   after o (accepted r) = accepted (r .0, o ⊕ (r .1))
 
-  abbrev pub run : S → List I → Checked (S × O)
+  abbrev pub run : S → List (Checked I) → Checked (S × O)
   run s [] = accepted (s, nothing)
-  run s (i ∷ is) = step s i >>= λ r. after (r .1) (run (r .0) is)
+  run s (i ∷ is) = i >>= step s >>= λ r. after (r .1) (run (r .0) is)
+
+-- a step that puts nothing out
+abbrev pub silent : {S I : Type 0} → (S → I → Checked S) → S → I → Checked (S × Unit {0})
+silent step s i = step s i >>= λ t. accepted (t, tt)
+
+-- a run of such steps
+abbrev pub runSilent : {S I : Type 0} → (S → I → Checked S) → S → List (Checked I) → Checked S
+runSilent step s is = run (silent step) tt (λ a b. tt) s is >>= λ r. accepted (r .0)

@@ -1,11 +1,10 @@
 -- "The list bound": how long the value list of an accepted reading can be.
 use Prim.Native.Nat.{ℕ, _+_, min}
 use mathlib.Core.List.{List}
-use Rattle.definition.specs.Answers.{Checked, refused, accepted, _>>=_, _>>_, run}
-use Rattle.definition.specs.Items.{Item, items}
-use Rattle.definition.specs.Ops.{opOf}
+use Rattle.definition.specs.Answers.{Checked, accepted, _>>=_, _>>_, runSilent}
+use Rattle.definition.specs.Options.{Table}
+use Rattle.definition.specs.Ops.{ops}
 use Rattle.definition.specs.States.{start, set, natural, alignment, longer}
-use Rattle.definition.specs.Measuring.{silent}
 use Rattle.definition.specs.declared.State.{State}
 use Rattle.definition.specs.declared.Field.{Field}
 use Rattle.definition.specs.declared.Field.the-variants.{Number, Chars, ZeroEnded, Counted}
@@ -26,15 +25,10 @@ boundOp d s (Set x) = accepted (set x s)
 boundOp d s (Pad n k) = alignment s n >> accepted s
 boundOp d s (Put f) = alignment s (natural f) >> longer s (most d f)
 
-unfoldable pub boundItem : ℕ → State → Item → Checked (State × Unit {0})
-boundItem d s i = do
-  o ← opOf i
-  t ← boundOp d s o
-  accepted (t, tt)
-
-abbrev pub bounding : ℕ → State → List Item → Checked (State × Unit {0})
-bounding d s is = run (boundItem d) tt silent s is
+-- the state after items
+abbrev pub bounding : ℕ → State → List (Checked Op) → Checked State
+bounding d s is = runSilent (boundOp d) s is
 
 -- of a format and a data length
-unfoldable pub bound : List ℕ → ℕ → Checked ℕ
-bound f d = bounding d start (items f) >>= λ r. accepted (r .0 .length)
+unfoldable pub bound : Table → List ℕ → ℕ → Checked ℕ
+bound t f d = bounding d start (ops t f) >>= λ s. accepted (s .length)

@@ -1,18 +1,19 @@
 -- The calls, with the host program's checks: "21 .. first of all", "22 .. last of all". The contracts of the code name these.
 use Prim.Native.Nat.{ℕ, _-_, _^_}
 use mathlib.Core.Bool.{Bool, _&&_, cond}
-use mathlib.Core.List.{List, [], _∷_, _++_, map}
+use mathlib.Core.List.{List, _++_, map}
 use lib.Dec.{leb}
 use lib.IntN.{ℤ}
 use lib.ListN.{length, drop}
 use Rattle.definition.specs.Answers.{Checked, refused, accepted, _>>=_, _>>_, require}
+use Rattle.definition.specs.Options.{options}
 use Rattle.definition.specs.Ops.{isPower}
 use Rattle.definition.specs.Values.{Value}
 use Rattle.definition.specs.Lists.{values, listOf}
 use Rattle.definition.specs.States.{start}
 use Rattle.definition.specs.Measuring.{measure}
 use Rattle.definition.specs.Writing.{Place, Output, zeroed, write}
-use Rattle.definition.specs.Reading.{read}
+use Rattle.definition.specs.Reading.{Read, valuesOf, read}
 use Rattle.definition.specs.Bound.{bound}
 use Rattle.definition.specs.declared.State.{State}
 use Rattle.definition.specs.declared.Position.{Position}
@@ -34,7 +35,7 @@ into b (accepted r) = cond (leb (length (r .1)) (length b)) (call (accepted (r .
 
 -- ---- measuring, and the list bound: "21 .. data above 2^63-1 bytes"
 abbrev pub stringPacksize : List ℕ → Checked ℕ
-stringPacksize f = measure f
+stringPacksize f = measure options f
 
 abbrev pub atMost63 : ℕ → Bool
 atMost63 n = leb n (2 ^ 63 - 1)
@@ -42,7 +43,7 @@ atMost63 n = leb n (2 ^ 63 - 1)
 unfoldable pub listBound : List ℕ → ℕ → Checked ℕ
 listBound f d = do
   require (atMost63 d) 21
-  bound f d
+  bound options f d
 
 -- ---- writing
 
@@ -51,7 +52,7 @@ unfoldable pub pack : State → List ℕ → List ℕ → Checked (Place Value �
 pack s f l = do
   require (isPower (s .limit) && atMost63 (s .length)) 21
   vs ← values l
-  write s vs f
+  write options s vs f
 
 -- the bytes of a run
 abbrev pub recordOf : Output → List ℕ
@@ -70,14 +71,18 @@ unfoldable pub stringPack : List ℕ → List ℕ → List ℕ → Call ℕ
 stringPack f l b = into b (pack start f l >>= λ r. accepted (length (r .1 .cells), recordOf (r .1)))
 
 -- ---- reading
-unfoldable pub unpack : List ℕ → List ℕ → ℤ → Checked (List Value × Position)
+unfoldable pub unpack : List ℕ → List ℕ → ℤ → Checked (List Read × Position)
 unpack f d p = do
   require (atMost63 (length d)) 21
-  read f d p
+  read options f d p
 
-abbrev pub unpackedOf : List Value × Position → Unpacked
-unpackedOf r = record { length = length (listOf (r .0)); next = r .1 }
+-- the value list of what is read
+abbrev pub listRead : List Read → List ℕ
+listRead rs = listOf (valuesOf rs)
+
+abbrev pub unpackedOf : List Read × Position → Unpacked
+unpackedOf r = record { length = length (listRead (r .0)); next = r .1 }
 
 -- a format, data, a start, and the list buffer
 unfoldable pub stringUnpack : List ℕ → List ℕ → ℤ → List ℕ → Call Unpacked
-stringUnpack f d p b = into b (unpack f d p >>= λ r. accepted (unpackedOf r, listOf (r .0)))
+stringUnpack f d p b = into b (unpack f d p >>= λ r. accepted (unpackedOf r, listRead (r .0)))

@@ -11,7 +11,9 @@ use lib.ListN.{length, take, drop}
 use Rattle.definition.specs.Answers.{Checked, refused, accepted, _>>=_}
 use Rattle.definition.specs.Bytes.{IsByte}
 use Rattle.definition.specs.Items.{Item, items, texts, value}
-use Rattle.definition.specs.Ops.{opOf}
+use Rattle.definition.specs.Refusals.{refusals, among}
+use Rattle.definition.specs.Options.{options}
+use Rattle.definition.specs.Ops.{ops}
 use Rattle.definition.specs.Values.{Value, asInteger}
 use Rattle.definition.specs.Lists.{listOf, fieldsAfter}
 use Rattle.definition.specs.States.{start}
@@ -86,9 +88,9 @@ isOpen ZeroEnded = true
 isOpen (Counted n) = true
 
 -- "F has z or s"
-abbrev pub hasOpen : List Item → Bool
+abbrev pub hasOpen : List (Checked Op) → Bool
 hasOpen [] = false
-hasOpen (i ∷ is) = ofField isOpen false (opOf i) || hasOpen is
+hasOpen (i ∷ is) = ofField isOpen false i || hasOpen is
 
 abbrev pub isShort : Field → Bool
 isShort (Number k n) = true
@@ -98,7 +100,7 @@ isShort (Counted n) = true
 
 -- "no c numeral is above 65,535"
 abbrev pub ShortChars : List ℕ → Type 0
-ShortChars f = All (λ i. T (ofField isShort true (opOf i))) (items f)
+ShortChars f = All (λ i. T (ofField isShort true i)) (ops options f)
 
 abbrev pub isSome : {A : Type 0} → Option A → Bool
 isSome none = false
@@ -135,7 +137,7 @@ pub record Agreement (f l b : List ℕ) : Type 0 where
   -- "Writing accepts F with some values and gives B."
   pub wrote : stringPack f l b ≡ gives (length (packedBytes f l)) (packedBytes f l) b
   -- "Then packsize gives B's length if F has no z or s, and 10 if it has."
-  pub size : stringPacksize f ≡ cond (hasOpen (items f)) (refused 10) (accepted (length (packedBytes f l)))
+  pub size : stringPacksize f ≡ cond (hasOpen (ops options f)) (refused 10) (accepted (length (packedBytes f l)))
   -- "in any data of at most 2^63-1 bytes holding B at an offset that is a multiple of 16, whichever bytes replace B's padding, reading F there gives exactly document 01's kept values and the position just after B"
   pub back : Readable f l → (front held rest b : List ℕ) → length front % 16 ≡ 0 → Holds (written f l .cells) held → length (front ++ (held ++ rest)) ≤ 2 ^ 63 - 1
       → LongEnough (stringUnpack f (front ++ (held ++ rest)) (pos (length front + 1)) b .answer)
@@ -154,7 +156,7 @@ joined (x ∷ xs) = x ++ joined xs
 -- "every list of parts into which cuts between items divide the format": each part is the text of a group of f's items
 pub record Divides (f : List ℕ) (ps : List (List ℕ)) : Type 0 where
   pub groups : List (List Item)
-  pub whole : items f ≡ joined groups
+  pub whole : items options f ≡ joined groups
   pub parts : ps ≡ map texts groups
 
 -- "the bytes, last state and counts" of one call or of several
@@ -214,9 +216,9 @@ pub record Rooms : Type 0 where
   pub continues : (s : State) (f l : List ℕ) → Room (packContinued s f l)
   pub reads : (f d : List ℕ) (p : ℤ) → Room (stringUnpack f d p)
 
--- "A refusal returns its number only": a number of the list, 1 to 22, so that a caller may take 0 for "accepted"
+-- "A refusal returns its number only": a number of the list, in which 0 is not, so that a caller may take 0 for "accepted"
 abbrev pub Listed : {A : Type 0} → Checked A → Type 0
-Listed c = (k : ℕ) → c ≡ refused k → (1 ≤ k) × (k ≤ 22)
+Listed c = (k : ℕ) → c ≡ refused k → T (among refusals k)
 
 -- every call
 pub record Numbered : Type 0 where

@@ -14,15 +14,15 @@ use Rattle.definition.specs.Answers.{Checked, refused, accepted}
 use Rattle.definition.specs.Bytes.{bytes, little, total, signed, laid}
 use Rattle.definition.specs.Values.{Value, float, other}
 use Rattle.definition.specs.Lists.{listOf, fieldOf, valuesPast}
-use Rattle.definition.specs.Options.{options, entryOf}
+use Rattle.definition.specs.Options.{entryList, options}
 use Rattle.definition.specs.Items.{digits, nextByte, taken, itemsPast, items, value, numeralOf}
 use Rattle.definition.specs.Ops.{opOf}
 use Rattle.definition.specs.States.{longer, alignment, padding}
 use Rattle.definition.specs.Fields.{word, encode, number, decode, kept}
-use Rattle.definition.specs.Measuring.{measureOp, measureItem, measure}
-use Rattle.definition.specs.Writing.{writeField, writeOp, writeItem}
-use Rattle.definition.specs.Reading.{readField, readOp, readItem, read}
-use Rattle.definition.specs.Bound.{boundOp, boundItem, bound}
+use Rattle.definition.specs.Measuring.{measureOp, measure}
+use Rattle.definition.specs.Writing.{writeField, writeOp}
+use Rattle.definition.specs.Reading.{readField, readOp, read}
+use Rattle.definition.specs.Bound.{boundOp, bound}
 use Rattle.definition.specs.Calls.{stringPacksize, listBound, pack, stringPack, unpack, stringUnpack}
 use Rattle.definition.specs.Profiles.{packs, reads, keeps, Result, data-bytes, data-values, result, int, neg, str}
 
@@ -147,7 +147,7 @@ bounded =
 -- ---- items: how many bytes each item has after its first, before 22 and behind X
 
 abbrev lengths : List ℕ → List ℕ
-lengths f = map (λ i. length (i .more)) (items f)
+lengths f = map (λ i. length (i .more)) (items options f)
 
 abbrev taken-digits : List (String × List ℕ)
 taken-digits =
@@ -361,7 +361,7 @@ pub record Entries : Type 0 where
   pub behind-an-X-above-127 : Says 128 128 (λ b. stringPacksize (bytes "!16xX" ++ (b ∷ []))) [] (refused 1)
 
 pub entries : Entries
-unfolding little total signed laid listOf fieldOf valuesPast options entryOf digits nextByte taken itemsPast value numeralOf opOf longer alignment padding word encode number decode kept measureOp measureItem measure writeField writeOp writeItem readField readOp readItem read boundOp boundItem bound listBound pack stringPack unpack stringUnpack toSingle fromSingle ofBits toBits ofInt ofFields odd round nanBits size span climb units trailingZeros
+unfolding little total signed laid listOf fieldOf valuesPast entryList options digits nextByte taken itemsPast value numeralOf opOf longer alignment padding word encode number decode kept measureOp measure writeField writeOp readField readOp read boundOp bound listBound pack stringPack unpack stringUnpack toSingle fromSingle ofBits toBits ofInt ofFields odd round nanBits size span climb units trailingZeros
 entries =
     record {
       after-a-byte = refl;

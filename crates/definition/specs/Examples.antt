@@ -12,15 +12,15 @@ use Rattle.definition.specs.Answers.{Checked, refused, accepted}
 use Rattle.definition.specs.Bytes.{bytes, little, total, signed, laid}
 use Rattle.definition.specs.Values.{Value, integer, float, text, other}
 use Rattle.definition.specs.Lists.{listOf, fieldOf, valuesPast, fieldsAfter, offsetAfter}
-use Rattle.definition.specs.Options.{options, entryOf}
+use Rattle.definition.specs.Options.{entryList, options}
 use Rattle.definition.specs.Items.{digits, nextByte, taken, itemsPast, value, numeralOf}
 use Rattle.definition.specs.Ops.{opOf}
 use Rattle.definition.specs.States.{state, start, longer, alignment, padding}
 use Rattle.definition.specs.Fields.{word, encode, short, number, decode, kept}
-use Rattle.definition.specs.Measuring.{measureOp, measureItem, measure}
-use Rattle.definition.specs.Writing.{writeField, writeOp, writeItem}
-use Rattle.definition.specs.Reading.{offset, positionOf, readField, readOp, readItem, read}
-use Rattle.definition.specs.Bound.{boundOp, boundItem, bound}
+use Rattle.definition.specs.Measuring.{measureOp, measure}
+use Rattle.definition.specs.Writing.{writeField, writeOp}
+use Rattle.definition.specs.Reading.{offset, positionOf, readField, readOp, read}
+use Rattle.definition.specs.Bound.{boundOp, bound}
 use Rattle.definition.specs.Program.{firstLine, decimalIn, printed}
 use Rattle.definition.specs.Calls.{Call, call, listBound, pack, packContinued, stringPack, unpack, stringUnpack}
 use Rattle.definition.specs.Profiles.{packs, continues, sizes, bounds, reads, keeps, prints, data-number, data-values, data-continued, room, Row, pack-gives, pack-refused, size-gives, size-refused, read-gives, read-refused, Hold, int, neg, str}
@@ -601,7 +601,7 @@ pub record Examples : Type 0 where
   pub of-long-texts : Same long-texts
 
 pub examples : Examples
-unfolding little total signed laid listOf fieldOf valuesPast fieldsAfter options entryOf digits nextByte taken itemsPast value numeralOf opOf longer alignment padding word encode number decode kept measureOp measureItem measure writeField writeOp writeItem readField readOp readItem read boundOp boundItem bound listBound firstLine decimalIn printed pack packContinued stringPack unpack stringUnpack toSingle fromSingle ofBits toBits ofInt ofFields odd round nanBits size span climb units trailingZeros
+unfolding little total signed laid listOf fieldOf valuesPast fieldsAfter entryList options digits nextByte taken itemsPast value numeralOf opOf longer alignment padding word encode number decode kept measureOp measure writeField writeOp readField readOp read boundOp bound listBound firstLine decimalIn printed pack packContinued stringPack unpack stringUnpack toSingle fromSingle ofBits toBits ofInt ofFields odd round nanBits size span climb units trailingZeros
 examples =
     record {
       of-numerals = refl;

@@ -5,13 +5,7 @@ use mathlib.Core.Bool.{Bool, true, false, _&&_, cond}
 use mathlib.Core.List.{List, [], _∷_, _++_}
 use lib.Dec.{leb, ltb}
 use lib.ListN.{length}
-use Rattle.definition.specs.Options.{entryOf}
-use Rattle.definition.specs.declared.Class.{Class}
-use Rattle.definition.specs.declared.Class.the-variants.{NoOption, Blank, Order, Limit, Number, Chars, ZeroEnded, Counted, Fill, Align}
-use Rattle.definition.specs.declared.NumeralRule.{NumeralRule}
-use Rattle.definition.specs.declared.NumeralRule.the-variants.{Nothing, Digits, DigitsBehindX, NextByte}
-use Rattle.definition.specs.declared.Numeral.{Numeral}
-use Rattle.definition.specs.declared.Numeral.the-variants.{Missing, TooLarge, Value}
+use Rattle.definition.specs.Options.{Table, Class, NoOption, Blank, Order, Limit, Number, Chars, ZeroEnded, Counted, Fill, Align, NumeralRule, Nothing, Digits, DigitsBehindX, NextByte}
 
 abbrev pub isDigit : ℕ → Bool
 isDigit b = leb (code "0") b && leb b (code "9")
@@ -43,20 +37,20 @@ behindX DigitsBehindX = true
 behindX NextByte = false
 
 -- "X takes the next byte too, and after it the digits if it is i I l L f"
-unfoldable pub nextByte : List ℕ → List ℕ
-nextByte [] = []
-nextByte (c ∷ s) = c ∷ cond (isNumber (entryOf c .class) && behindX (entryOf c .rule)) (digits s) []
+unfoldable pub nextByte : Table → List ℕ → List ℕ
+nextByte t [] = []
+nextByte t (c ∷ s) = c ∷ cond (isNumber (t c .class) && behindX (t c .rule)) (digits s) []
 
 -- "i I l L c s ! take all digits that follow; no other does"
-abbrev pub takenBy : NumeralRule → List ℕ → List ℕ
-takenBy Nothing s = []
-takenBy Digits s = digits s
-takenBy DigitsBehindX s = []
-takenBy NextByte s = nextByte s
+abbrev pub takenBy : Table → NumeralRule → List ℕ → List ℕ
+takenBy t Nothing s = []
+takenBy t Digits s = digits s
+takenBy t DigitsBehindX s = []
+takenBy t NextByte s = nextByte t s
 
 -- what the byte b takes of the bytes s after it
-unfoldable pub taken : ℕ → List ℕ → List ℕ
-taken b s = takenBy (entryOf b .rule) s
+unfoldable pub taken : Table → ℕ → List ℕ → List ℕ
+taken t b s = takenBy t (t b .rule) s
 
 pub record Item : Type 0 where
   pub byte : ℕ
@@ -66,14 +60,14 @@ abbrev pub item : ℕ → List ℕ → Item
 item b s = record { byte = b; more = s }
 
 -- the items of a format whose first k bytes belong to the item before
-unfoldable pub itemsPast : ℕ → List ℕ → List Item
-itemsPast zero [] = []
-itemsPast zero (b ∷ s) = item b (taken b s) ∷ itemsPast (length (taken b s)) s
-itemsPast (suc k) [] = []
-itemsPast (suc k) (b ∷ s) = itemsPast k s
+unfoldable pub itemsPast : Table → ℕ → List ℕ → List Item
+itemsPast t zero [] = []
+itemsPast t zero (b ∷ s) = item b (taken t b s) ∷ itemsPast t (length (taken t b s)) s
+itemsPast t (suc k) [] = []
+itemsPast t (suc k) (b ∷ s) = itemsPast t k s
 
-abbrev pub items : List ℕ → List Item
-items f = itemsPast 0 f
+abbrev pub items : Table → List ℕ → List Item
+items t f = itemsPast t 0 f
 
 -- the bytes of items
 abbrev pub texts : List Item → List ℕ
@@ -81,6 +75,12 @@ texts [] = []
 texts (i ∷ is) = i .byte ∷ (i .more ++ texts is)
 
 -- ---- numerals
+
+-- none, one of 2^64 or more, or its value
+pub data Numeral : Type 0 where
+  Missing : Numeral
+  TooLarge : Numeral
+  Value : ℕ → Numeral
 
 -- the number that digits write after those that made n
 unfoldable pub value : ℕ → List ℕ → ℕ

@@ -1,4 +1,5 @@
 pub mod Answers
+pub mod Refusals
 pub mod Bytes
 pub mod Values
 pub mod Lists

@@ -1,9 +1,9 @@
 -- "Measuring": the format's checks, alignment and lengths; "Measuring leaves out values."
 use Prim.Native.Nat.{ℕ, _+_}
 use mathlib.Core.List.{List}
-use Rattle.definition.specs.Answers.{Checked, refused, accepted, _>>=_, run}
-use Rattle.definition.specs.Items.{Item, items}
-use Rattle.definition.specs.Ops.{opOf}
+use Rattle.definition.specs.Answers.{Checked, refused, accepted, _>>=_, runSilent}
+use Rattle.definition.specs.Options.{Table}
+use Rattle.definition.specs.Ops.{ops}
 use Rattle.definition.specs.States.{start, set, natural, padding, longer}
 use Rattle.definition.specs.declared.State.{State}
 use Rattle.definition.specs.declared.Field.{Field}
@@ -28,19 +28,14 @@ measureOp s (Set x) = accepted (set x s)
 measureOp s (Pad n k) = measurePad s n k
 measureOp s (Put f) = sizeOf f >>= measurePad s (natural f)
 
--- what a run that puts nothing out joins
-abbrev pub silent : Unit {0} → Unit {0} → Unit {0}
-silent a b = tt
+-- the state after items
+abbrev pub measuring : State → List (Checked Op) → Checked State
+measuring s is = runSilent measureOp s is
 
-unfoldable pub measureItem : State → Item → Checked (State × Unit {0})
-measureItem s i = do
-  o ← opOf i
-  t ← measureOp s o
-  accepted (t, tt)
-
-abbrev pub measuring : State → List Item → Checked (State × Unit {0})
-measuring s is = run measureItem tt silent s is
+-- the state that a format leads to
+abbrev pub measureFrom : Table → State → List ℕ → Checked State
+measureFrom t s f = measuring s (ops t f)
 
 -- the size of a format
-unfoldable pub measure : List ℕ → Checked ℕ
-measure f = measuring start (items f) >>= λ r. accepted (r .0 .length)
+unfoldable pub measure : Table → List ℕ → Checked ℕ
+measure t f = measureFrom t start f >>= λ s. accepted (s .length)

@@ -1,18 +1,11 @@
 -- What an item does, or its refusal by the checks that need no state: "numeral (8, 2), limits (3, 4, 5)", 1, and "X checks 7 first".
 use Prim.Native.Nat.{ℕ}
 use mathlib.Core.Bool.{Bool, _&&_, _||_}
-use mathlib.Core.List.{List, [], _∷_}
+use mathlib.Core.List.{List, [], _∷_, map}
 use lib.Dec.{leb, ltb, eqb}
 use Rattle.definition.specs.Answers.{Checked, refused, accepted, _>>=_, _>>_, require}
-use Rattle.definition.specs.Options.{entryOf}
-use Rattle.definition.specs.Items.{Item, numeralOf}
-use Rattle.definition.specs.declared.Class.{Class}
-use Rattle.definition.specs.declared.Class.the-variants.{NoOption, Blank, Order, Limit, Number, Chars, ZeroEnded, Counted, Fill, Align}
-use Rattle.definition.specs.declared.NumeralRule.{NumeralRule}
-use Rattle.definition.specs.declared.NumeralRule.the-variants.{Nothing, Digits, DigitsBehindX, NextByte}
-use Rattle.definition.specs.declared.Entry.{Entry}
-use Rattle.definition.specs.declared.Numeral.{Numeral}
-use Rattle.definition.specs.declared.Numeral.the-variants.{Missing, TooLarge, Value}
+use Rattle.definition.specs.Options.{Table, Class, NoOption, Blank, Order, Limit, Number, Chars, ZeroEnded, Counted, Fill, Align, NumeralRule, Nothing, Digits, DigitsBehindX, NextByte, Entry}
+use Rattle.definition.specs.Items.{Item, items, numeralOf, Numeral, Missing, TooLarge, Value}
 use Rattle.definition.specs.declared.Op.{Op}
 use Rattle.definition.specs.declared.Op.the-variants as Op
 use Rattle.definition.specs.declared.Field.the-variants as Field
@@ -75,11 +68,11 @@ naturalBy Fill r n m = refused 7
 naturalBy Align r n m = refused 7
 
 -- of what X takes; "1 .. any byte above 127 even after X"
-abbrev pub naturalOf : List ℕ → Checked ℕ
-naturalOf [] = refused 7
-naturalOf (c ∷ s) = do
+abbrev pub naturalOf : Table → List ℕ → Checked ℕ
+naturalOf t [] = refused 7
+naturalOf t (c ∷ s) = do
   require (ltb c 128) 1
-  naturalBy (entryOf c .class) (entryOf c .rule) (entryOf c .size) (numeralOf s)
+  naturalBy (t c .class) (t c .rule) (t c .size) (numeralOf s)
 
 -- ---- the items
 
@@ -97,11 +90,15 @@ opBy Fill n m = accepted (Op.Pad 1 1)
 opBy Align n m = refused 7
 
 -- by what the byte takes
-abbrev pub opWith : NumeralRule → Entry → List ℕ → Checked Op
-opWith Nothing e s = opBy (e .class) (e .size) Missing
-opWith Digits e s = opBy (e .class) (e .size) (numeralOf s)
-opWith DigitsBehindX e s = opBy (e .class) (e .size) Missing
-opWith NextByte e s = naturalOf s >>= λ n. accepted (Op.Pad n 0)
+abbrev pub opWith : Table → NumeralRule → Entry → List ℕ → Checked Op
+opWith t Nothing e s = opBy (e .class) (e .size) Missing
+opWith t Digits e s = opBy (e .class) (e .size) (numeralOf s)
+opWith t DigitsBehindX e s = opBy (e .class) (e .size) Missing
+opWith t NextByte e s = naturalOf t s >>= λ n. accepted (Op.Pad n 0)
 
-unfoldable pub opOf : Item → Checked Op
-opOf i = opWith (entryOf (i .byte) .rule) (entryOf (i .byte)) (i .more)
+unfoldable pub opOf : Table → Item → Checked Op
+opOf t i = opWith t (t (i .byte) .rule) (t (i .byte)) (i .more)
+
+-- what each item of a format does, or its refusal
+abbrev pub ops : Table → List ℕ → List (Checked Op)
+ops t f = map (opOf t) (items t f)

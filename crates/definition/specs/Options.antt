@@ -1,22 +1,48 @@
 -- "A table of 256 entries, one for each byte value, says what that byte means."
 use Prim.Native.Nat.{ℕ}
 use Prim.Native.Char.{code}
-use mathlib.Core.Bool.{true, false, cond}
+use mathlib.Core.Bool.{Bool, true, false, cond}
 use mathlib.Core.List.{List, [], _∷_}
 use lib.Dec.{eqb}
-use Rattle.definition.specs.declared.Class.{Class}
-use Rattle.definition.specs.declared.Class.the-variants.{NoOption, Blank, Order, Limit, Number, Chars, ZeroEnded, Counted, Fill, Align}
+use Rattle.definition.specs.declared.Kind.{Kind}
 use Rattle.definition.specs.declared.Kind.the-variants.{SmallSigned, SmallUnsigned, Signed, Unsigned, LuaInteger, LuaUnsigned, Size, Single, Double}
-use Rattle.definition.specs.declared.NumeralRule.{NumeralRule}
-use Rattle.definition.specs.declared.NumeralRule.the-variants.{Nothing, Digits, DigitsBehindX, NextByte}
-use Rattle.definition.specs.declared.Entry.{Entry}
+
+-- What a byte means: < and = are `Order false`, > is `Order true`, ! is Limit, c is Chars, z is ZeroEnded, s is Counted, x is Fill, and X is Align.
+pub data Class : Type 0 where
+  NoOption : Class
+  Blank : Class
+  Order : Bool → Class
+  Limit : Class
+  Number : Kind → Class
+  Chars : Class
+  ZeroEnded : Class
+  Counted : Class
+  Fill : Class
+  Align : Class
+
+-- Which bytes after it a byte takes into its item: none; the digits; the digits where it stands behind X; or the next byte, with the digits that this one takes behind X.
+pub data NumeralRule : Type 0 where
+  Nothing : NumeralRule
+  Digits : NumeralRule
+  DigitsBehindX : NumeralRule
+  NextByte : NumeralRule
+
+-- what a byte means, its size where it has no numeral, and its numeral rule
+pub record Entry : Type 0 where
+  pub class : Class
+  pub size : ℕ
+  pub rule : NumeralRule
+
+-- the entry of each byte
+abbrev pub Table : Type 0
+Table = ℕ → Entry
 
 abbrev pub entry : Class → ℕ → NumeralRule → Entry
 entry c n r = record { class = c; size = n; rule = r }
 
 -- the entries of the bytes that have a meaning; a size is that of the option without a numeral
-unfoldable pub options : List (ℕ × Entry)
-options =
+unfoldable pub entryList : List (ℕ × Entry)
+entryList =
     (code " ", entry Blank 0 Nothing)
     ∷ (code "\t", entry Blank 0 Nothing)
     ∷ (code "\n", entry Blank 0 Nothing)
@@ -52,6 +78,6 @@ find b [] = entry NoOption 0 Nothing
 find b (e ∷ es) = cond (eqb b (e .0)) (e .1) (find b es)
 
 -- the table
-unfoldable pub entryOf : ℕ → Entry
-unfolding options
-entryOf b = find b options
+unfoldable pub options : Table
+unfolding entryList
+options b = find b entryList

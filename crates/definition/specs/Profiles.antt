@@ -13,15 +13,15 @@ use Rattle.definition.specs.Answers.{Checked, refused, accepted, _>>=_}
 use Rattle.definition.specs.Bytes.{bytes, little, total, signed, laid}
 use Rattle.definition.specs.Values.{Value, integer, float, text, other}
 use Rattle.definition.specs.Lists.{listOf, fieldOf, valuesPast, values}
-use Rattle.definition.specs.Options.{options, entryOf}
+use Rattle.definition.specs.Options.{entryList, options}
 use Rattle.definition.specs.Items.{digits, nextByte, taken, itemsPast, value, numeralOf}
 use Rattle.definition.specs.Ops.{opOf}
 use Rattle.definition.specs.States.{state, start, longer, alignment, padding}
 use Rattle.definition.specs.Fields.{word, encode, number, decode, kept}
-use Rattle.definition.specs.Measuring.{measureOp, measureItem, measure}
-use Rattle.definition.specs.Writing.{writeField, writeOp, writeItem}
-use Rattle.definition.specs.Reading.{readField, readOp, readItem, read}
-use Rattle.definition.specs.Bound.{boundOp, boundItem, bound}
+use Rattle.definition.specs.Measuring.{measureOp, measure}
+use Rattle.definition.specs.Writing.{writeField, writeOp}
+use Rattle.definition.specs.Reading.{readField, readOp, read}
+use Rattle.definition.specs.Bound.{boundOp, bound}
 use Rattle.definition.specs.Program.{firstLine, decimalIn, printed}
 use Rattle.definition.specs.Calls.{Call, stringPacksize, listBound, pack, packContinued, stringPack, unpack, stringUnpack}
 use Rattle.definition.specs.Claims.{keptList}
@@ -142,5 +142,5 @@ profiles =
     ∷ []
 
 pub profiles-hold : Hold profiles
-unfolding profiles little total signed laid listOf fieldOf valuesPast options entryOf digits nextByte taken itemsPast value numeralOf opOf longer alignment padding word encode number decode measureOp measureItem measure writeField writeOp writeItem readField readOp readItem read pack stringPack unpack stringUnpack toSingle fromSingle ofBits toBits ofInt ofFields odd round nanBits size span climb units trailingZeros
+unfolding profiles little total signed laid listOf fieldOf valuesPast entryList options digits nextByte taken itemsPast value numeralOf opOf longer alignment padding word encode number decode measureOp measure writeField writeOp readField readOp read pack stringPack unpack stringUnpack toSingle fromSingle ofBits toBits ofInt ofFields odd round nanBits size span climb units trailingZeros
 profiles-hold = refl

@@ -7,6 +7,7 @@ use lib.Dec.{leb, ltb, eqb}
 use lib.ListN.{length}
 use Rattle.definition.specs.Answers.{Checked, refused, accepted, _>>_, require}
 use Rattle.definition.specs.Bytes.{bytes}
+use Rattle.definition.specs.Options.{options}
 use Rattle.definition.specs.Measuring.{measure}
 
 -- the bytes up to a line feed or the end
@@ -29,4 +30,4 @@ line (accepted n) = bytes "size " ++ (decimal n ++ bytes "\n")
 
 -- what is printed for an input
 unfoldable pub printed : List ℕ → List ℕ
-printed input = line (require (leb (length (firstLine input)) 4096) 22 >> measure (firstLine input))
+printed input = line (require (leb (length (firstLine input)) 4096) 22 >> measure options (firstLine input))

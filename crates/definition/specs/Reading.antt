@@ -1,13 +1,13 @@
 -- "Reading": "In an item: format checks, then 17 (padding, x and X included), then 18 or 19, then 20".
-use Prim.Native.Nat.{ℕ, zero, suc, _+_, _-_}
+use Prim.Native.Nat.{ℕ, suc, _+_, _-_}
 use mathlib.Core.Bool.{_&&_}
-use mathlib.Core.List.{List, [], _∷_, _++_}
+use mathlib.Core.List.{List, [], _∷_, _++_, map}
 use lib.Dec.{leb, ltb}
 use lib.IntN.{ℤ, pos, negsuc}
-use lib.ListN.{length, drop}
-use Rattle.definition.specs.Answers.{Checked, refused, accepted, _>>=_, _>>_, require, run}
-use Rattle.definition.specs.Items.{Item, items}
-use Rattle.definition.specs.Ops.{opOf}
+use lib.ListN.{length, take, drop}
+use Rattle.definition.specs.Answers.{Checked, accepted, _>>=_, _>>_, require, run}
+use Rattle.definition.specs.Options.{Table}
+use Rattle.definition.specs.Ops.{ops}
 use Rattle.definition.specs.Values.{Value}
 use Rattle.definition.specs.States.{start, state, set, further, natural, padding}
 use Rattle.definition.specs.Fields.{decode, first}
@@ -49,31 +49,39 @@ readPad r n k = do
   b ← first (p + k) (r .left)
   accepted (skipped r (p + k))
 
-unfoldable pub readField : Place ℕ → Field → Checked (Place ℕ × List Value)
+-- a value that is read: what it is read as, where its bytes start in the data, the bytes, and the value
+pub record Read : Type 0 where
+  pub field : Field
+  pub start : Offset
+  pub bytes : List ℕ
+  pub value : Value
+
+unfoldable pub readField : Place ℕ → Field → Checked (Place ℕ × List Read)
 readField r f = do
   t ← readPad r (natural f) 0
   v ← decode (r .state .big) f (t .left)
-  accepted (skipped t (v .1), v .0 ∷ [])
+  accepted (skipped t (v .1), record { field = f; start = offset (t .state .length); bytes = take (v .1) (t .left); value = v .0 } ∷ [])
 
-unfoldable pub readOp : Place ℕ → Op → Checked (Place ℕ × List Value)
+unfoldable pub readOp : Place ℕ → Op → Checked (Place ℕ × List Read)
 readOp r Blank = accepted (r, [])
 readOp r (Set x) = accepted (place (set x (r .state)) (r .left), [])
 readOp r (Pad n k) = readPad r n k >>= λ t. accepted (t, [])
 readOp r (Put f) = readField r f
 
-unfoldable pub readItem : Place ℕ → Item → Checked (Place ℕ × List Value)
-readItem r i = opOf i >>= readOp r
-
-abbrev pub reading : Place ℕ → List Item → Checked (Place ℕ × List Value)
-reading r is = run readItem [] _++_ r is
+abbrev pub reading : Place ℕ → List (Checked Op) → Checked (Place ℕ × List Read)
+reading r is = run readOp [] _++_ r is
 
 -- a format read from an offset of the data, in the start state's order and limit
-abbrev pub readFrom : List ℕ → List ℕ → Offset → Checked (Place ℕ × List Value)
-readFrom f d o = reading (place (atOffset start o) (drop (o .0) d)) (items f)
+abbrev pub readFrom : Table → List ℕ → List ℕ → Offset → Checked (Place ℕ × List Read)
+readFrom t f d o = reading (place (atOffset start o) (drop (o .0) d)) (ops t f)
 
--- the values of a format in data, from a start, and the position after the last byte read: 16 "before all items"
-unfoldable pub read : List ℕ → List ℕ → ℤ → Checked (List Value × Position)
-read f d p = do
+-- what a format reads in data, from a start, and the position after the last byte read: 16 "before all items"
+unfoldable pub read : Table → List ℕ → List ℕ → ℤ → Checked (List Read × Position)
+read t f d p = do
   o ← offsetOf p (length d)
-  r ← readFrom f d o
+  r ← readFrom t f d o
   accepted (r .1, positionOf (offsetIn (r .0 .state)))
+
+-- the values that are read
+abbrev pub valuesOf : List Read → List Value
+valuesOf rs = map (λ r. r .value) rs

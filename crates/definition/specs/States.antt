@@ -2,7 +2,7 @@
 use Prim.Native.Nat.{ℕ, _+_, _-_, _^_, _%_, min}
 use mathlib.Core.Bool.{Bool, false}
 use lib.Dec.{leb}
-use Rattle.definition.specs.Answers.{Checked, refused, accepted, _>>=_, _>>_, require}
+use Rattle.definition.specs.Answers.{Checked, accepted, _>>=_, _>>_, require}
 use Rattle.definition.specs.Ops.{isPower}
 use Rattle.definition.specs.declared.State.{State}
 use Rattle.definition.specs.declared.Setting.{Setting}

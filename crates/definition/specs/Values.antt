@@ -1,10 +1,10 @@
 -- "Kept from pack.rs, and written anew": the values, and the bodies that get a meaning there.
-use Prim.Native.Nat.{ℕ, _+_, _-_, _*_, _/_, _%_, _^_, _≤_, _<_, min}
+use Prim.Native.Nat.{ℕ, _-_, _*_, _/_, _%_, _^_, _≤_, _<_, min}
 use mathlib.Core.Bool.{Bool, true, false, _&&_, cond}
 use mathlib.Core.List.{List}
 use mathlib.Core.Option.{Option, none, some}
 use lib.Dec.{ltb, eqb}
-use lib.IntN.{ℤ, pos, negsuc, negℤ}
+use lib.IntN.{ℤ, pos, negℤ}
 use lib.ListN.{length}
 use lib.Ieee.{Float, nan, inf, fin, binary64, up, down, ofBits, ofInt, toBits, round}
 use Rattle.definition.specs.Bytes.{extent}

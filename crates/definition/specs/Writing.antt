@@ -3,8 +3,8 @@ use Prim.Native.Nat.{ℕ, _+_}
 use mathlib.Core.List.{List, [], _∷_, _++_, map}
 use lib.ListN.{length, replicate}
 use Rattle.definition.specs.Answers.{Checked, refused, accepted, _>>=_, run}
-use Rattle.definition.specs.Items.{Item, items}
-use Rattle.definition.specs.Ops.{opOf}
+use Rattle.definition.specs.Options.{Table}
+use Rattle.definition.specs.Ops.{ops}
 use Rattle.definition.specs.Values.{Value}
 use Rattle.definition.specs.States.{set, natural, padding, longer}
 use Rattle.definition.specs.Fields.{encode}
@@ -84,12 +84,9 @@ writeOp r (Set x) = accepted (place (set x (r .state)) (r .left), output [] [] 1
 writeOp r (Pad n k) = writePad r n k
 writeOp r (Put f) = writeField r f
 
-unfoldable pub writeItem : Place Value → Item → Checked (Place Value × Output)
-writeItem r i = opOf i >>= writeOp r
-
-abbrev pub writing : Place Value → List Item → Checked (Place Value × Output)
-writing r is = run writeItem nothing _⊕_ r is
+abbrev pub writing : Place Value → List (Checked Op) → Checked (Place Value × Output)
+writing r is = run writeOp nothing _⊕_ r is
 
 -- a format written from a state with values
-abbrev pub write : State → List Value → List ℕ → Checked (Place Value × Output)
-write s vs f = writing (place s vs) (items f)
+abbrev pub write : Table → State → List Value → List ℕ → Checked (Place Value × Output)
+write t s vs f = writing (place s vs) (ops t f)

@@ -22,50 +22,6 @@ pub enum Kind {
     Unsigned,
 }
 
-// What a byte of a format means.
-pub enum Class {
-    NoOption,
-    Blank,
-    // < and =, and > with true
-    Order(bool),
-    // !
-    Limit,
-    Number(Kind),
-    // c
-    Chars,
-    // z
-    ZeroEnded,
-    // s
-    Counted,
-    // x
-    Fill,
-    // X
-    Align,
-}
-
-// Which bytes after it a byte takes into its item: none; the digits; the digits where it stands behind X; or the
-// next byte with the digits that this one takes behind X.
-pub enum NumeralRule {
-    Nothing,
-    Digits,
-    DigitsBehindX,
-    NextByte,
-}
-
-// An entry of the option table: what a byte means, its size where it has no numeral, and its numeral rule.
-pub struct Entry {
-    pub class: Class,
-    pub size: u8,
-    pub rule: NumeralRule,
-}
-
-// A numeral: none, one of 2^64 or more, or its value.
-pub enum Numeral {
-    Missing,
-    TooLarge,
-    Value(u64),
-}
-
 // What takes a value: a number of a kind in so many bytes, c, z, and s with the size of its length.
 pub enum Field {
     Number(Kind, u64),

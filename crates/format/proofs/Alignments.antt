@@ -5,31 +5,27 @@ use mathlib.Core.Bool.{Bool, true, false, _&&_, cond}
 use mathlib.Core.List.{List, [], _∷_}
 use native.Mathlib.Numerals.{add-one, one-add}
 use native.Mathlib.Omega.{arith}
-use lib.Dec.{ltb, eqb}
+use lib.Dec.{T, ltb, eqb}
+use lib.Ieee.Bits.{is-true}
 use lib.ListN.{length, getD, drop}
 use borrow.Author.Tests.{lt-ltb, le-ltb, ltb-true, ltb-false, ne-eqb}
 use Rattle.definition.specs.Answers.{Checked, refused, accepted, _>>_, require}
-use Rattle.definition.specs.Options.{entry, entryOf}
-use Rattle.definition.specs.Items.{digits, isNumber, behindX, nextByte, numeralOf}
+use Rattle.definition.specs.Options.{entry, Table, Class, Number, Blank, Order, ZeroEnded, Fill, Nothing, Digits, Entry}
+use Rattle.definition.specs.Items.{digits, isNumber, behindX, nextByte, numeralOf, Numeral}
 use Rattle.definition.specs.Ops.{within16, sizeOr, naturalBy}
-use Rattle.definition.specs.declared.Class.{Class}
-use Rattle.definition.specs.declared.Class.the-variants.{Number, Blank, Order, ZeroEnded, Fill}
 use Rattle.definition.specs.declared.Kind.{Kind}
 use Rattle.definition.specs.declared.Kind.the-variants.{Signed, Unsigned}
-use Rattle.definition.specs.declared.NumeralRule.the-variants.{Nothing, Digits}
-use Rattle.definition.specs.declared.Entry.{Entry}
-use Rattle.definition.specs.declared.Numeral.{Numeral}
-use Rattle.definition.specs.declared.Numeral.the-variants as Numeral
+use Rattle.definition.specs.Items as Numeral
 use Rattle.format.specs.Packed.{sizeAt, plainAt, entryAt}
 use Rattle.format.specs.Operands.{sizeBy, taking, operandAt, naturalAt, oneMore}
-use Rattle.format.proofs.Table.{does, OwnSize, size-rule}
+use Rattle.definition.proofs.Ops.{ok, Sizes, and-parts}
 use Rattle.format.proofs.Entries.{at-fixed, at-plain, at-signed, at-unsigned, at-counted, at-chars, at-limit, at-align, at-none, sized-by}
 use Rattle.format.proofs.Numerals.{by-digits}
 
-pub natural-nil : (s : List ℕ) → length s ≡ 0 → refused 7 ≡ naturalAt s
+pub natural-nil : (t : Table) (s : List ℕ) → length s ≡ 0 → refused 7 ≡ naturalAt t s
 unfolding naturalAt nextByte
-natural-nil [] h = refl
-natural-nil (b ∷ s) h = absurd (omega arith)
+natural-nil t [] h = refl
+natural-nil t (b ∷ s) h = absurd (omega arith)
 
 -- the digits that X takes behind a byte with the entry e, of s
 abbrev takenOf : Entry → List ℕ → List ℕ
@@ -38,19 +34,15 @@ takenOf e s = cond (isNumber (e .class) && behindX (e .rule)) (digits s) []
 abbrev natural : Entry → List ℕ → Checked (ℕ × ℕ)
 natural e s = taking (suc (length (takenOf e s))) (naturalBy (e .class) (e .rule) (e .size) (numeralOf (takenOf e s)))
 
-natural-cons : (b : ℕ) (s : List ℕ) (e : Entry) → e ≡ entryOf b → b < 128 → naturalAt (b ∷ s) ≡ natural e s
+natural-cons : (t : Table) (b : ℕ) (s : List ℕ) (e : Entry) → e ≡ t b → b < 128 → naturalAt t (b ∷ s) ≡ natural e s
 unfolding naturalAt nextByte
-natural-cons b s e q h = rw (lt-ltb b 128 h, ← q)
+natural-cons t b s e q h = rw (lt-ltb b 128 h, ← q)
 
--- a size that passes the definition's check needs none
-checked : (k : Kind) (n : ℕ) → OwnSize (entry (Number k) n Digits) → (m : Numeral) → sizeBy n m ≡ sizeOr n m
-checked k n q Numeral.Missing = go (within16 n) q
-  where
-    go : (t : Bool) → does (Number k) (require t 3 >> accepted n) ≡ does (Number k) (accepted n) → accepted n ≡ (require t 3 >> accepted n)
-    go true p = refl
-    go false p = let z : _≡_ {A = ℕ} 0 1 = cc in absurd (omega arith)
-checked k n q Numeral.TooLarge = refl
-checked k n q (Numeral.Value v) = refl
+-- a size of 1 to 16 needs no check
+checked : (n : ℕ) → T (within16 n) → (m : Numeral) → sizeBy n m ≡ sizeOr n m
+checked n q Numeral.Missing = rw (is-true (within16 n) q)
+checked n q Numeral.TooLarge = refl
+checked n q (Numeral.Value v) = refl
 
 -- ---- by the packed number of the byte
 module _ (e : ℕ) (s : List ℕ) where
@@ -88,16 +80,16 @@ module _ (e : ℕ) (s : List ℕ) where
   one-more (accepted n) i = rw add-one
 
   -- of i I l L
-  checked-at : OwnSize (entryAt e) → 192 ≤ e → e < 224 → (m : Numeral) → sizeBy (sizeAt e) m ≡ sizeOr (sizeAt e) m
-  checked-at d l h = go (ltb e 208) refl
+  own-size : T (ok (entryAt e)) → 192 ≤ e → e < 224 → T (within16 (sizeAt e))
+  own-size d l h = go (ltb e 208) refl
     where
-      go : (t : Bool) → ltb e 208 ≡ t → (m : Numeral) → sizeBy (sizeAt e) m ≡ sizeOr (sizeAt e) m
-      go true q = checked Signed (sizeAt e) (rw (at-signed e l (ltb-true e 208 q)) at d)
-      go false q = checked Unsigned (sizeAt e) (rw (at-unsigned e (ltb-false e 208 q) h) at d)
+      go : (x : Bool) → ltb e 208 ≡ x → T (within16 (sizeAt e))
+      go true q = and-parts (within16 (sizeAt e)) true (rw (at-signed e l (ltb-true e 208 q)) at d) .0
+      go false q = and-parts (within16 (sizeAt e)) true (rw (at-unsigned e (ltb-false e 208 q) h) at d) .0
 
-  numeral : OwnSize (entryAt e) → 192 ≤ e → e < 224 → oneMore (operandAt (entryAt e) s) ≡ natural (entryAt e) s
-  numeral d l h =
-      ap oneMore (by-digits e l (omega arith) s ∙ ap (taking (length (digits s))) (sized-by e l (omega arith) (numeralOf (digits s)) ∙ checked-at d l h (numeralOf (digits s))))
+  numeral : (t : Table) → T (ok (entryAt e)) → 192 ≤ e → e < 224 → oneMore (operandAt t (entryAt e) s) ≡ natural (entryAt e) s
+  numeral t d l h =
+      ap oneMore (by-digits t e l (omega arith) s ∙ ap (taking (length (digits s))) (sized-by e l (omega arith) (numeralOf (digits s)) ∙ checked (sizeAt e) (own-size d l h) (numeralOf (digits s))))
       ∙ one-more (sizeOr (sizeAt e) (numeralOf (digits s))) (length (digits s))
       ∙ sym (integer l h)
 
@@ -120,33 +112,33 @@ module _ (e : ℕ) (s : List ℕ) where
   none l = rw (at-none e l)
 
 -- ---- at the front of s, which follows X
-pub natural-high : (s : List ℕ) → (length s ≡ 0 → ⊥) → 128 ≤ getD s 0 0 → refused 1 ≡ naturalAt s
+pub natural-high : (t : Table) (s : List ℕ) → (length s ≡ 0 → ⊥) → 128 ≤ getD s 0 0 → refused 1 ≡ naturalAt t s
 unfolding naturalAt nextByte
-natural-high [] n h = absurd (n refl)
-natural-high (b ∷ s) n h = rw (le-ltb b 128 h)
+natural-high t [] n h = absurd (n refl)
+natural-high t (b ∷ s) n h = rw (le-ltb b 128 h)
 
-front : (s : List ℕ) → (length s ≡ 0 → ⊥) → getD s 0 0 < 128 → (e : ℕ) → entryAt e ≡ entryOf (getD s 0 0) → naturalAt s ≡ natural (entryAt e) (drop 1 s)
-front [] n h e q = absurd (n refl)
-front (b ∷ s) n h e q = natural-cons b s (entryAt e) q h
+front : (t : Table) (s : List ℕ) → (length s ≡ 0 → ⊥) → getD s 0 0 < 128 → (e : ℕ) → entryAt e ≡ t (getD s 0 0) → naturalAt t s ≡ natural (entryAt e) (drop 1 s)
+front t [] n h e q = absurd (n refl)
+front t (b ∷ s) n h e q = natural-cons t b s (entryAt e) q h
 
-module _ (s : List ℕ) (n : length s ≡ 0 → ⊥) (h : getD s 0 0 < 128) (e : ℕ) (q : entryAt e ≡ entryOf (getD s 0 0)) where
-  pub natural-single : e ≡ 84 → (p : ℕ) → p ≡ 1 + length (digits (drop 1 s)) → accepted (4, p) ≡ naturalAt s
-  natural-single k p r = rw (r, one-add) (sym (front s n h e q ∙ single e (drop 1 s) k))
+module _ (t : Table) (s : List ℕ) (n : length s ≡ 0 → ⊥) (h : getD s 0 0 < 128) (e : ℕ) (q : entryAt e ≡ t (getD s 0 0)) where
+  pub natural-single : e ≡ 84 → (p : ℕ) → p ≡ 1 + length (digits (drop 1 s)) → accepted (4, p) ≡ naturalAt t s
+  natural-single k p r = rw (r, one-add) (sym (front t s n h e q ∙ single e (drop 1 s) k))
 
-  pub natural-fixed : e < 112 → (e ≡ 84 → ⊥) → accepted (sizeAt e, 1) ≡ naturalAt s
-  natural-fixed k l = sym (front s n h e q ∙ fixed e (drop 1 s) k l)
+  pub natural-fixed : e < 112 → (e ≡ 84 → ⊥) → accepted (sizeAt e, 1) ≡ naturalAt t s
+  natural-fixed k l = sym (front t s n h e q ∙ fixed e (drop 1 s) k l)
 
-  pub natural-plain : 112 ≤ e → e < 192 → refused 7 ≡ naturalAt s
-  natural-plain k l = sym (front s n h e q ∙ plain e (drop 1 s) k l)
+  pub natural-plain : 112 ≤ e → e < 192 → refused 7 ≡ naturalAt t s
+  natural-plain k l = sym (front t s n h e q ∙ plain e (drop 1 s) k l)
 
-  pub natural-numeral : 192 ≤ e → e < 224 → oneMore (operandAt (entryAt e) (drop 1 s)) ≡ naturalAt s
-  natural-numeral k l = numeral e (drop 1 s) (rw q (size-rule (getD s 0 0) (omega arith))) k l ∙ sym (front s n h e q)
+  pub natural-numeral : Sizes t → 192 ≤ e → e < 224 → oneMore (operandAt t (entryAt e) (drop 1 s)) ≡ naturalAt t s
+  natural-numeral d k l = numeral e (drop 1 s) t (rw q (d (getD s 0 0))) k l ∙ sym (front t s n h e q)
 
-  pub natural-other : 224 ≤ e → e < 252 → refused 7 ≡ naturalAt s
-  natural-other k l = sym (front s n h e q ∙ other e (drop 1 s) k l)
+  pub natural-other : 224 ≤ e → e < 252 → refused 7 ≡ naturalAt t s
+  natural-other k l = sym (front t s n h e q ∙ other e (drop 1 s) k l)
 
-  pub natural-none : 252 ≤ e → accepted (1, 1) ≡ naturalAt s
-  natural-none k = sym (front s n h e q ∙ none e (drop 1 s) k)
+  pub natural-none : 252 ≤ e → accepted (1, 1) ≡ naturalAt t s
+  natural-none k = sym (front t s n h e q ∙ none e (drop 1 s) k)
 
 -- what is not empty has a first byte
 pub inside : (s : List ℕ) → (length s ≡ 0 → ⊥) → 0 < length s

@@ -5,53 +5,52 @@ use mathlib.Core.Bool.{Bool, true, false, cond}
 use mathlib.Core.List.{List, _∷_}
 use mathlib.Core.Option.{Option, none, some}
 use native.Mathlib.Omega.{arith}
-use lib.Dec.{ltb, eqb}
+use lib.Dec.{T, ltb, eqb}
+use lib.Ieee.Bits.{is-true}
 use lib.ListN.{length, getD, drop, drop-of-length-le}
 use borrow.Author.Tests.{ltb-true, ltb-false}
 use Rattle.definition.specs.Answers.{Checked, refused, accepted, _>>=_}
-use Rattle.definition.specs.Options.{entryOf}
-use Rattle.definition.specs.Items.{taken, takenBy, numeralOf}
-use Rattle.definition.specs.Ops.{opBy, opWith, opOf}
-use Rattle.definition.specs.declared.Class.{Class}
-use Rattle.definition.specs.declared.Class.the-variants as Class
-use Rattle.definition.specs.declared.NumeralRule.{NumeralRule}
-use Rattle.definition.specs.declared.NumeralRule.the-variants.{Nothing, Digits, DigitsBehindX, NextByte}
-use Rattle.definition.specs.declared.Entry.{Entry}
-use Rattle.definition.specs.declared.Numeral.{Numeral}
-use Rattle.definition.specs.declared.Numeral.the-variants.{Missing, TooLarge, Value}
+use Rattle.definition.specs.Options.{Table, Class, NumeralRule, Nothing, Digits, DigitsBehindX, NextByte, Entry}
+use Rattle.definition.specs.Items.{taken, takenBy, numeralOf, Numeral, Missing, TooLarge, Value}
+use Rattle.definition.specs.Ops.{within16, opBy, opWith, opOf}
+use Rattle.definition.proofs.Ops.{entryOk, Sizes, and-parts}
+use Rattle.definition.specs.Options as Class
 use Rattle.definition.specs.declared.Op.{Op}
 use Rattle.definition.specs.declared.Op.the-variants as Op
 use Rattle.format.specs.Packed.{plainAt, entryAt}
 use Rattle.format.specs.Operands.{operandBy, operandWith, opFor, taking, operandAt}
 use Rattle.format.specs.Steps.{opAt, nextAt}
 use Rattle.numeral.proofs.Digits.{drop-at}
-use Rattle.format.proofs.Table.{does, OwnSize, size-rule}
 use Rattle.format.proofs.Entries.{at-fixed, at-plain, at-align, at-none, digits-rule}
 
 -- ---- the operation by the operand
 
--- where an option's own size passes the check, any numeral does
-op-by : (c : Class) (n : ℕ) → opBy c n Missing ≡ does c (operandBy c n Missing) → (m : Numeral) → opBy c n m ≡ does c (operandBy c n m)
-op-by Class.NoOption n h m = refl
-op-by Class.Blank n h m = refl
-op-by (Class.Order o) n h m = refl
-op-by Class.Limit n h m = refl
-op-by (Class.Number k) n h Missing = h
-op-by (Class.Number k) n h TooLarge = refl
-op-by (Class.Number k) n h (Value v) = refl
-op-by Class.Chars n h m = refl
-op-by Class.ZeroEnded n h m = refl
-op-by Class.Counted n h Missing = h
-op-by Class.Counted n h TooLarge = refl
-op-by Class.Counted n h (Value v) = refl
-op-by Class.Fill n h m = refl
-op-by Class.Align n h m = refl
+-- what an option of a class does with a checked operand
+abbrev does : Class → Checked ℕ → Checked Op
+does c x = x >>= λ k. accepted (opFor c k)
 
-op-with : (r : NumeralRule) (e : Entry) (s : List ℕ) → (r ≡ NextByte → e .class ≡ Class.Align) → OwnSize e → opWith r e s ≡ does (e .class) (operandWith r e s)
-op-with Nothing e s x h = h
-op-with Digits e s x h = op-by (e .class) (e .size) h (numeralOf s)
-op-with DigitsBehindX e s x h = h
-op-with NextByte e s x h = rw (x refl)
+-- where an option's own size is one of 1 to 16, its operand is checked with any numeral
+op-by : (c : Class) (r : NumeralRule) (n : ℕ) → T (entryOk c r n) → (m : Numeral) → opBy c n m ≡ does c (operandBy c n m)
+op-by Class.NoOption r n h m = refl
+op-by Class.Blank r n h m = refl
+op-by (Class.Order o) r n h m = refl
+op-by Class.Limit r n h m = refl
+op-by (Class.Number k) r n h Missing = rw (is-true (within16 n) (and-parts (within16 n) _ h .0))
+op-by (Class.Number k) r n h TooLarge = refl
+op-by (Class.Number k) r n h (Value v) = refl
+op-by Class.Chars r n h m = refl
+op-by Class.ZeroEnded r n h m = refl
+op-by Class.Counted r n h Missing = rw (is-true (within16 n) h)
+op-by Class.Counted r n h TooLarge = refl
+op-by Class.Counted r n h (Value v) = refl
+op-by Class.Fill r n h m = refl
+op-by Class.Align r n h m = refl
+
+op-with : (t : Table) (r : NumeralRule) (e : Entry) (s : List ℕ) → (r ≡ NextByte → e .class ≡ Class.Align) → T (entryOk (e .class) r (e .size)) → opWith t r e s ≡ does (e .class) (operandWith t r e s)
+op-with t Nothing e s x h = op-by (e .class) Nothing (e .size) h Missing
+op-with t Digits e s x h = op-by (e .class) Digits (e .size) h (numeralOf s)
+op-with t DigitsBehindX e s x h = op-by (e .class) DigitsBehindX (e .size) h Missing
+op-with t NextByte e s x h = rw (x refl)
 
 -- only X takes the next byte
 next-align : (e : ℕ) → entryAt e .rule ≡ NextByte → entryAt e .class ≡ Class.Align
@@ -81,12 +80,13 @@ next-align e q = by112 (ltb e 112) refl
 abbrev pub stepOf : ℕ → ℕ → Checked (ℕ × ℕ) → Checked (Option (Op × ℕ))
 stepOf at e x = x >>= λ r. accepted (some (opAt e (r .0), at + 1 + r .1))
 
-next-cons : (at b : ℕ) → b < 256 → (s : List ℕ) (e : ℕ) → entryAt e ≡ entryOf b → nextAt at (b ∷ s) ≡ stepOf at e (operandAt (entryAt e) s)
+next-cons : (t : Table) → Sizes t → (at b : ℕ) (s : List ℕ) (e : ℕ) → entryAt e ≡ t b → nextAt t at (b ∷ s) ≡ stepOf at e (operandAt t (entryAt e) s)
 unfolding nextAt taken opOf operandAt
-next-cons at b h s e q = rw (← q, op-with (entryAt e .rule) (entryAt e) (takenBy (entryAt e .rule) s) (next-align e) (rw q (size-rule b h))) (go (operandWith (entryAt e .rule) (entryAt e) (takenBy (entryAt e .rule) s)))
+next-cons t h at b s e q =
+    rw (← q, op-with t (entryAt e .rule) (entryAt e) (takenBy t (entryAt e .rule) s) (next-align e) (rw q (h b))) (go (operandWith t (entryAt e .rule) (entryAt e) (takenBy t (entryAt e .rule) s)))
   where
     n : ℕ
-    n = length (takenBy (entryAt e .rule) s)
+    n = length (takenBy t (entryAt e .rule) s)
 
     placed : Op → Checked (Option (Op × ℕ))
     placed o = accepted (some (o, at + 1 + n))
@@ -95,13 +95,14 @@ next-cons at b h s e q = rw (← q, op-with (entryAt e .rule) (entryAt e) (taken
     go (refused k) = refl
     go (accepted k) = refl
 
-pub next-end : (s : List ℕ) (at : ℕ) → length s ≤ at → accepted none ≡ nextAt at (drop at s)
+pub next-end : (t : Table) (s : List ℕ) (at : ℕ) → length s ≤ at → accepted none ≡ nextAt t at (drop at s)
 unfolding nextAt
-next-end s at h = rw (drop-of-length-le s h)
+next-end t s at h = rw (drop-of-length-le s h)
 
 -- inside the format, with the entry e of the byte there and the operand x of what follows
-pub next-step : (s : List ℕ) (at : ℕ) → at < length s → getD s at 0 < 256 → (e : ℕ) → entryAt e ≡ entryOf (getD s at 0) → (x : Checked (ℕ × ℕ)) → x ≡ operandAt (entryAt e) (drop (at + 1) s) → stepOf at e x ≡ nextAt at (drop at s)
-next-step s at h b e q x p = ap (stepOf at e) p ∙ sym (ap (nextAt at) (drop-at s at h) ∙ next-cons at (getD s at 0) b (drop (at + 1) s) e q)
+pub next-step : (t : Table) → Sizes t → (s : List ℕ) (at : ℕ) → at < length s → (e : ℕ) → entryAt e ≡ t (getD s at 0) → (x : Checked (ℕ × ℕ)) → x ≡ operandAt t (entryAt e) (drop (at + 1) s)
+    → stepOf at e x ≡ nextAt t at (drop at s)
+next-step t d s at h e q x p = ap (stepOf at e) p ∙ sym (ap (nextAt t at) (drop-at s at h) ∙ next-cons t d at (getD s at 0) (drop (at + 1) s) e q)
 
 -- what has no operand does the same with any
 pub plain-op : (e n : ℕ) → opFor (plainAt e) 0 ≡ opFor (plainAt e) n

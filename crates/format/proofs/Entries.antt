@@ -6,13 +6,10 @@ use native.Mathlib.Omega.{arith}
 use lib.Dec.{ltb, eqb}
 use borrow.Author.Tests.{lt-ltb, le-ltb, ltb-true, ltb-false}
 use Rattle.definition.specs.Answers.{accepted}
-use Rattle.definition.specs.Options.{entry}
+use Rattle.definition.specs.Options.{entry, NoOption, Blank, Order, Limit, Number, Chars, ZeroEnded, Counted, Fill, Align, Nothing, Digits, DigitsBehindX, NextByte}
 use Rattle.definition.specs.Ops.{limitOr, needed}
-use Rattle.definition.specs.declared.Class.the-variants.{NoOption, Blank, Order, Limit, Number, Chars, ZeroEnded, Counted, Fill, Align}
 use Rattle.definition.specs.declared.Kind.the-variants.{Signed, Unsigned}
-use Rattle.definition.specs.declared.NumeralRule.the-variants.{Nothing, Digits, DigitsBehindX, NextByte}
-use Rattle.definition.specs.declared.Numeral.{Numeral}
-use Rattle.definition.specs.declared.Numeral.the-variants.{Missing}
+use Rattle.definition.specs.Items.{Numeral, Missing}
 use Rattle.format.specs.Packed.{kindAt, sizeAt, plainAt, entryAt}
 use Rattle.format.specs.Operands.{sizeBy, operandBy}
 

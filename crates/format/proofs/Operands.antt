@@ -1,6 +1,6 @@
 -- The operand of X and of a byte that is no option, and how many bytes an option takes.
 use Prim.Native.Nat.{ℕ, _^_, _≤_, _<_}
-use mathlib.Core.Path.{_≡_, refl, sym, ap}
+use mathlib.Core.Path.{_≡_, refl, sym, ap, _∙_}
 use mathlib.Core.Bool.{Bool, true, false, cond}
 use mathlib.Core.List.{List}
 use native.Mathlib.Omega.{arith}
@@ -8,14 +8,12 @@ use lib.Dec.{ltb, eqb}
 use lib.ListN.{length}
 use borrow.Author.Tests.{ltb-true, ltb-false}
 use Rattle.definition.specs.Answers.{Checked, refused, accepted}
-use Rattle.definition.specs.Options.{entry}
+use Rattle.definition.specs.Options.{Table, entry, Nothing, DigitsBehindX, Number, Entry}
 use Rattle.definition.specs.Items.{takenBy}
-use Rattle.definition.specs.declared.NumeralRule.the-variants.{Nothing, DigitsBehindX}
-use Rattle.definition.specs.declared.Class.the-variants.{Number}
-use Rattle.definition.specs.declared.Entry.{Entry}
-use Rattle.definition.specs.declared.Numeral.the-variants as Numeral
+use Rattle.definition.specs.Items as Numeral
 use Rattle.format.specs.Packed.{kindAt, sizeAt, plainAt, entryAt}
-use Rattle.format.specs.Operands.{operandBy, operandWith, taking, operandAt, naturalAt, operandOf, roomFor1}
+use Rattle.format.specs.Operands.{operandBy, operandWith, taking, operandAt, naturalAt, operandOf, roomFor1, behindOf}
+use Rattle.format.specs.declared.operand.Behind.{Behind}
 use Rattle.format.specs.declared.operand.Operand.{Operand}
 use Rattle.format.specs.declared.operand.Operand.the-variants as Operand
 use Rattle.format.proofs.Taken.{taken-length}
@@ -26,32 +24,36 @@ taking-count : (c : Checked ℕ) (i n j : ℕ) → taking i c ≡ accepted (n, j
 taking-count (refused k) i n j q = let z : _≡_ {A = ℕ} 0 1 = cc in absurd (omega arith)
 taking-count (accepted m) i n j q = let p : _≡_ {A = ℕ × ℕ} (m, i) (n, j) = cc in ap (λ (x : ℕ × ℕ). x .1) (sym p)
 
-pub operand-count : (e : Entry) (s : List ℕ) (n i : ℕ) → operandAt e s ≡ accepted (n, i) → i ≤ length s
+pub operand-count : (t : Table) (e : Entry) (s : List ℕ) (n i : ℕ) → operandAt t e s ≡ accepted (n, i) → i ≤ length s
 unfolding operandAt
-operand-count e s n i q = rw (taking-count (operandWith (e .rule) e (takenBy (e .rule) s)) (length (takenBy (e .rule) s)) n i q) (taken-length (e .rule) s)
+operand-count t e s n i q = rw (taking-count (operandWith t (e .rule) e (takenBy t (e .rule) s)) (length (takenBy t (e .rule) s)) n i q) (taken-length t (e .rule) s)
 
-pub room : (x : Operand) (e : Entry) (s : List ℕ) → operandOf x ≡ operandAt e s → length s < 2 ^ 63 → roomFor1 x
-room (Operand.Refused k) e s q h = tt
-room (Operand.Of n i) e s q h = omega (arith, operand-count e s n i (sym q))
+pub room : (t : Table) (x : Operand) (e : Entry) (s : List ℕ) → operandOf x ≡ operandAt t e s → length s < 2 ^ 63 → roomFor1 x
+room t (Operand.Refused k) e s q h = tt
+room t (Operand.Of n i) e s q h = omega (arith, operand-count t e s n i (sym q))
 
 -- ---- X, and a byte that is no option
-pub operand-x : (e : ℕ) → 248 ≤ e → e < 252 → (s : List ℕ) → naturalAt s ≡ operandAt (entryAt e) s
+pub operand-x : (t : Table) (e : ℕ) → 248 ≤ e → e < 252 → (s : List ℕ) → naturalAt t s ≡ operandAt t (entryAt e) s
 unfolding operandAt naturalAt
-operand-x e l h s = rw (at-align e l h)
+operand-x t e l h s = rw (at-align e l h)
 
-pub operand-none : (e : ℕ) → 252 ≤ e → (s : List ℕ) → refused 1 ≡ operandAt (entryAt e) s
+-- what the answer y says of s, which follows X
+pub behind-is : (t : Table) (e : ℕ) → 248 ≤ e → e < 252 → (s : List ℕ) (x y : Behind) → x ≡ y → behindOf t x s ≡ naturalAt t s → behindOf t y s ≡ operandAt t (entryAt e) s
+behind-is t e l h s x y q p = ap (λ (z : Behind). behindOf t z s) (sym q) ∙ p ∙ operand-x t e l h s
+
+pub operand-none : (t : Table) (e : ℕ) → 252 ≤ e → (s : List ℕ) → refused 1 ≡ operandAt t (entryAt e) s
 unfolding operandAt
-operand-none e l s = rw (at-none e l)
+operand-none t e l s = rw (at-none e l)
 
 -- ---- options that take nothing
-fixed-with : (e : Entry) (s : List ℕ) (t : Bool) → operandBy (e .class) (e .size) Numeral.Missing ≡ accepted (e .size) → e .rule ≡ cond t DigitsBehindX Nothing → accepted (e .size, 0) ≡ operandAt e s
+fixed-with : (t : Table) (e : Entry) (s : List ℕ) (x : Bool) → operandBy (e .class) (e .size) Numeral.Missing ≡ accepted (e .size) → e .rule ≡ cond x DigitsBehindX Nothing → accepted (e .size, 0) ≡ operandAt t e s
 unfolding operandAt
-fixed-with e s true q r = rw (r, q)
-fixed-with e s false q r = rw (r, q)
+fixed-with t e s true q r = rw (r, q)
+fixed-with t e s false q r = rw (r, q)
 
-pub operand-bare : (e : ℕ) → e < 192 → (s : List ℕ) → accepted (sizeAt e, 0) ≡ operandAt (entryAt e) s
-operand-bare e h s = go (ltb e 112) refl
+pub operand-bare : (t : Table) (e : ℕ) → e < 192 → (s : List ℕ) → accepted (sizeAt e, 0) ≡ operandAt t (entryAt e) s
+operand-bare t e h s = go (ltb e 112) refl
   where
-    go : (t : Bool) → ltb e 112 ≡ t → accepted (sizeAt e, 0) ≡ operandAt (entryAt e) s
-    go true q = rw (at-fixed e (ltb-true e 112 q)) (fixed-with (entry (Number (kindAt e)) (sizeAt e) (cond (eqb e 84) DigitsBehindX Nothing)) s (eqb e 84) refl refl)
-    go false q = rw (at-plain e (ltb-false e 112 q) h) (fixed-with (entry (plainAt e) (sizeAt e) Nothing) s false (plain-by e (sizeAt e)) refl)
+    go : (x : Bool) → ltb e 112 ≡ x → accepted (sizeAt e, 0) ≡ operandAt t (entryAt e) s
+    go true q = rw (at-fixed e (ltb-true e 112 q)) (fixed-with t (entry (Number (kindAt e)) (sizeAt e) (cond (eqb e 84) DigitsBehindX Nothing)) s (eqb e 84) refl refl)
+    go false q = rw (at-plain e (ltb-false e 112 q) h) (fixed-with t (entry (plainAt e) (sizeAt e) Nothing) s false (plain-by e (sizeAt e)) refl)

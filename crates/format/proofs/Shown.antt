@@ -8,10 +8,10 @@ use lib.Dec.{leb, ltb, eqb}
 use lib.ListN.{length}
 use borrow.Author.Tests.{lt-ltb, le-leb, leb-true, leb-false, ltb-true, ltb-false, eqb-false}
 use Rattle.definition.specs.Answers.{accepted}
-use Rattle.definition.specs.Items.{isDigit, digits, value, numeralOf}
+use Rattle.definition.specs.Options.{Table}
+use Rattle.definition.specs.Items.{isDigit, digits, value, numeralOf, Numeral}
 use Rattle.definition.specs.Ops.{isPower}
-use Rattle.definition.specs.declared.Numeral.{Numeral}
-use Rattle.definition.specs.declared.Numeral.the-variants as Numeral
+use Rattle.definition.specs.Items as Numeral
 use Rattle.numeral.specs.Numerals.{shortOf}
 use Rattle.numeral.specs.declared.Short.{Short}
 use Rattle.numeral.specs.declared.Short.the-variants as Short
@@ -83,18 +83,18 @@ short-is s n q =
     least d l k m = omega arith
 
 -- ---- the operand
-module _ (e : ℕ) (s : List ℕ) where
+module _ (t : Table) (e : ℕ) (s : List ℕ) where
   -- i I l L s without a numeral
-  size-missing : 192 ≤ e → e < 240 → shortOf (digits s) ≡ Short.Missing → accepted (sizeAt e, 0) ≡ operandAt (entryAt e) s
+  size-missing : 192 ≤ e → e < 240 → shortOf (digits s) ≡ Short.Missing → accepted (sizeAt e, 0) ≡ operandAt t (entryAt e) s
   unfolding numeralOf
-  size-missing l h q = sym (by-digits e l (omega arith) s ∙ rw (short-missing (digits s) q, sized-by e l h Numeral.Missing))
+  size-missing l h q = sym (by-digits t e l (omega arith) s ∙ rw (short-missing (digits s) q, sized-by e l h Numeral.Missing))
 
   -- an option without a numeral has its own size
-  pub shown-missing : shownAt e s ≡ Short.Missing → e < 240 → accepted (sizeAt e, 0) ≡ operandAt (entryAt e) s
+  pub shown-missing : shownAt e s ≡ Short.Missing → e < 240 → accepted (sizeAt e, 0) ≡ operandAt t (entryAt e) s
   shown-missing q h = go (ltb e 192) (leb 248 e) refl refl q
     where
-      go : (t u : Bool) → ltb e 192 ≡ t → leb 248 e ≡ u → cond t Short.Missing (cond u Short.Long (shortOf (digits s))) ≡ Short.Missing → accepted (sizeAt e, 0) ≡ operandAt (entryAt e) s
-      go true u r k p = operand-bare e (ltb-true e 192 r) s
+      go : (x u : Bool) → ltb e 192 ≡ x → leb 248 e ≡ u → cond x Short.Missing (cond u Short.Long (shortOf (digits s))) ≡ Short.Missing → accepted (sizeAt e, 0) ≡ operandAt t (entryAt e) s
+      go true u r k p = operand-bare t e (ltb-true e 192 r) s
       go false true r k p = absurd (omega (arith, leb-true 248 e k))
       go false false r k p = size-missing (ltb-false e 192 r) h p
 
@@ -107,30 +107,30 @@ module _ (e : ℕ) (s : List ℕ) where
   pub shown-digit : (n : ℕ) → shownAt e s ≡ Short.Digit n → Digit n
   shown-digit n q = go (ltb e 192) (leb 248 e) refl refl q
     where
-      go : (t u : Bool) → ltb e 192 ≡ t → leb 248 e ≡ u → cond t Short.Missing (cond u Short.Long (shortOf (digits s))) ≡ Short.Digit n → Digit n
+      go : (x u : Bool) → ltb e 192 ≡ x → leb 248 e ≡ u → cond x Short.Missing (cond u Short.Long (shortOf (digits s))) ≡ Short.Digit n → Digit n
       go true u r k p = let z : _≡_ {A = ℕ} 0 1 = cc in absurd (omega arith)
       go false true r k p = let z : _≡_ {A = ℕ} 0 1 = cc in absurd (omega arith)
       go false false r k p = record { low = ltb-false e 192 r; high = leb-false 248 e k; single = short-is s n p }
 
-  digit-is : (n : ℕ) → Digit n → operandBy (entryAt e .class) (entryAt e .size) (Numeral.Value n) ≡ accepted n → accepted (n, 1) ≡ operandAt (entryAt e) s
-  digit-is n d q = sym (by-digits e (d .low) (d .high) s ∙ rw (d .single .numeral, d .single .one, q))
+  digit-is : (n : ℕ) → Digit n → operandBy (entryAt e .class) (entryAt e .size) (Numeral.Value n) ≡ accepted n → accepted (n, 1) ≡ operandAt t (entryAt e) s
+  digit-is n d q = sym (by-digits t e (d .low) (d .high) s ∙ rw (d .single .numeral, d .single .one, q))
 
   -- a size, or a length
-  pub digit-size : (n : ℕ) → Digit n → e < 244 → accepted (n, 1) ≡ operandAt (entryAt e) s
+  pub digit-size : (n : ℕ) → Digit n → e < 244 → accepted (n, 1) ≡ operandAt t (entryAt e) s
   digit-size n d h = digit-is n d (go (ltb e 240) refl)
     where
-      go : (t : Bool) → ltb e 240 ≡ t → operandBy (entryAt e .class) (entryAt e .size) (Numeral.Value n) ≡ accepted n
+      go : (x : Bool) → ltb e 240 ≡ x → operandBy (entryAt e .class) (entryAt e .size) (Numeral.Value n) ≡ accepted n
       go true r = sized-by e (d .low) (ltb-true e 240 r) (Numeral.Value n) ∙ rw (le-leb 1 n (d .single .low), le-leb n 16 (omega (arith, d .single .high)))
       go false r = chars-by e (ltb-false e 240 r) h (Numeral.Value n)
 
   -- a limit that is a power of two
-  pub digit-limit : (n : ℕ) → Digit n → 244 ≤ e → isPower n ≡ true → accepted (n, 1) ≡ operandAt (entryAt e) s
+  pub digit-limit : (n : ℕ) → Digit n → 244 ≤ e → isPower n ≡ true → accepted (n, 1) ≡ operandAt t (entryAt e) s
   digit-limit n d l p = digit-is n d (limit-by e l (d .high) (Numeral.Value n) ∙ rw (le-leb 1 n (d .single .low), le-leb n 16 (omega (arith, d .single .high)), p))
 
   -- an option that takes nothing is seen at once
   pub shown-long : shownAt e s ≡ Short.Long → 192 ≤ e
   shown-long q = go (ltb e 192) refl q
     where
-      go : (t : Bool) → ltb e 192 ≡ t → cond t Short.Missing (cond (leb 248 e) Short.Long (shortOf (digits s))) ≡ Short.Long → 192 ≤ e
+      go : (x : Bool) → ltb e 192 ≡ x → cond x Short.Missing (cond (leb 248 e) Short.Long (shortOf (digits s))) ≡ Short.Long → 192 ≤ e
       go true r p = let z : _≡_ {A = ℕ} 0 1 = cc in absurd (omega arith)
       go false r p = ltb-false e 192 r

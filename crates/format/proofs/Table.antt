@@ -1,34 +1,36 @@
--- The option table's rules: what a packed number stands for is the entry of its byte, and an option's own size passes the definition's check.
-use Prim.Native.Nat.{ℕ, _<_}
+-- The packed table is the option table: at all 256 bytes by one equation that antt computes, and above them there is no option.
+use Prim.Native.Nat.{ℕ, _≤_, _<_}
 use mathlib.Core.Path.{_≡_, refl, sym, ap, _∙_}
-use mathlib.Core.List.{List}
+use mathlib.Core.Bool.{Bool, true, false, cond}
+use mathlib.Core.List.{List, [], _∷_}
+use native.Mathlib.Omega.{arith}
+use lib.Dec.{T, ltb, eqb, ltb→lt}
 use lib.ListN.{getD}
-use Rattle.definition.specs.Answers.{Checked, accepted, _>>=_}
-use Rattle.definition.specs.Options.{options, entryOf}
-use Rattle.definition.specs.Ops.{opBy}
-use Rattle.definition.specs.declared.Class.{Class}
-use Rattle.definition.specs.declared.Entry.{Entry}
-use Rattle.definition.specs.declared.Numeral.the-variants.{Missing}
-use Rattle.definition.specs.declared.Op.{Op}
-use Rattle.format.specs.Packed.{packed, kindAt, plainAt, entryAt}
-use Rattle.format.specs.Operands.{operandBy, opFor}
+use borrow.Author.Tests.{ltb-true, ltb-false, ne-eqb}
+use Rattle.definition.specs.Options.{Entry, entryList, find, options, Table}
+use Rattle.format.specs.Packed.{packed, kindAt, plainAt, entryAt, tableAt}
 use Rattle.format.proofs.Tabulate.{rule}
 
--- at all 256 bytes by one equation that antt computes
-pub entry-rule : (t : List ℕ) → t ≡ packed → (b : ℕ) → b < 256 → entryAt (getD t b 0) ≡ entryOf b
-unfolding packed kindAt plainAt entryAt options entryOf
-entry-rule t e b h = ap (λ (l : List ℕ). entryAt (getD l b 0)) e ∙ rule entryAt entryOf packed 256 refl b 0 h
+-- the bytes of a list of entries are below 256
+abbrev low : List (ℕ × Entry) → Bool
+low [] = true
+low (e ∷ es) = cond (ltb (e .0) 256) (low es) false
 
--- what an option of a class does with a checked operand
-abbrev pub does : Class → Checked ℕ → Checked Op
-does c x = x >>= λ k. accepted (opFor c k)
+find-high : (b : ℕ) → 256 ≤ b → (es : List (ℕ × Entry)) → T (low es) → find b es ≡ find b []
+find-high b h [] l = refl
+find-high b h (e ∷ es) l = go (ltb (e .0) 256) refl l (find-high b h es)
+  where
+    go : (x : Bool) → ltb (e .0) 256 ≡ x → T (cond x (low es) false) → (T (low es) → find b es ≡ find b []) → cond (eqb b (e .0)) (e .1) (find b es) ≡ find b []
+    go true q l ih = let m = ltb-true (e .0) 256 q in rw (ne-eqb b (e .0) (λ i. omega arith)) (ih l)
+    go false q l ih = absurd l
 
--- an option's own size passes the definition's check
-abbrev pub OwnSize : Entry → Type 0
-OwnSize e = opBy (e .class) (e .size) Missing ≡ does (e .class) (operandBy (e .class) (e .size) Missing)
+at : (b : ℕ) → tableAt packed b ≡ options b
+unfolding packed kindAt plainAt entryAt entryList options
+at b = go (ltb b 256) refl
+  where
+    go : (x : Bool) → ltb b 256 ≡ x → cond x (entryAt (getD packed b 0)) (find b []) ≡ options b
+    go true q = rule entryAt options packed 256 refl b 0 (ltb-true b 256 q)
+    go false q = sym (find-high b (ltb-false b 256 q) entryList tt)
 
-pub size-rule : (b : ℕ) → b < 256 → OwnSize (entryOf b)
-unfolding packed kindAt plainAt entryAt options entryOf
-size-rule b h =
-    ap (λ (e : Entry). opBy (e .class) (e .size) Missing) (sym (entry-rule packed refl b h))
-    ∙ rule (λ e. opBy (entryAt e .class) (entryAt e .size) Missing) (λ b. does (entryOf b .class) (operandBy (entryOf b .class) (entryOf b .size) Missing)) packed 256 refl b 0 h
+pub packed-options : tableAt packed ≡ options
+packed-options = λ i b. at b i

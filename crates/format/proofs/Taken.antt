@@ -4,23 +4,21 @@ use mathlib.Core.Bool.{Bool, true, false, _&&_, cond}
 use mathlib.Core.List.{List, [], _∷_}
 use native.Mathlib.Omega.{arith}
 use lib.ListN.{length}
-use Rattle.definition.specs.Options.{entryOf}
+use Rattle.definition.specs.Options.{Table, NumeralRule, Nothing, Digits, DigitsBehindX, NextByte}
 use Rattle.definition.specs.Items.{digits, isNumber, behindX, nextByte, takenBy}
-use Rattle.definition.specs.declared.NumeralRule.{NumeralRule}
-use Rattle.definition.specs.declared.NumeralRule.the-variants.{Nothing, Digits, DigitsBehindX, NextByte}
 use Rattle.numeral.proofs.Digits.{digits-length}
 
-next-length : (s : List ℕ) → length (nextByte s) ≤ length s
+next-length : (t : Table) (s : List ℕ) → length (nextByte t s) ≤ length s
 unfolding nextByte
-next-length [] = omega arith
-next-length (b ∷ s) = go (isNumber (entryOf b .class) && behindX (entryOf b .rule))
+next-length t [] = omega arith
+next-length t (b ∷ s) = go (isNumber (t b .class) && behindX (t b .rule))
   where
-    go : (t : Bool) → suc (length (cond t (digits s) [])) ≤ suc (length s)
+    go : (x : Bool) → suc (length (cond x (digits s) [])) ≤ suc (length s)
     go true = omega (arith, digits-length s)
     go false = omega arith
 
-pub taken-length : (r : NumeralRule) (s : List ℕ) → length (takenBy r s) ≤ length s
-taken-length Nothing s = omega arith
-taken-length Digits s = digits-length s
-taken-length DigitsBehindX s = omega arith
-taken-length NextByte s = next-length s
+pub taken-length : (t : Table) (r : NumeralRule) (s : List ℕ) → length (takenBy t r s) ≤ length s
+taken-length t Nothing s = omega arith
+taken-length t Digits s = digits-length s
+taken-length t DigitsBehindX s = omega arith
+taken-length t NextByte s = next-length t s

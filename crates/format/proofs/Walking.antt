@@ -1,36 +1,24 @@
--- From what the cursor reads to the items of the format, for loops over a format.
+-- A run over a format by the cursor, one item at a time, for any step on what an item does and any output.
 use Prim.Native.Nat.{ℕ, suc, _+_, _-_, _≤_, _<_}
 use mathlib.Core.Path.{_≡_, refl, sym, ap, _∙_}
-use mathlib.Core.List.{List, [], _∷_}
+use mathlib.Core.List.{List, [], _∷_, map}
 use mathlib.Core.Option.{Option, none, some}
 use native.Mathlib.Omega.{arith}
+use lib.Dec.{T}
 use lib.ListN.{length, drop, length-drop}
 use lib.Seq.{drop-drop}
-use Rattle.definition.specs.Answers.{Checked, refused, accepted, _>>=_}
-use Rattle.definition.specs.Options.{entryOf}
+use Rattle.definition.specs.Answers.{Checked, refused, accepted, _>>=_, after, run}
+use Rattle.definition.specs.Options.{Table}
 use Rattle.definition.specs.Items.{Item, item, items, taken}
-use Rattle.definition.specs.Ops.{opOf}
+use Rattle.definition.specs.Ops.{opOf, ops}
 use Rattle.definition.specs.declared.Op.{Op}
 use Rattle.definition.proofs.Items.{items-nil, items-cons}
+use Rattle.definition.proofs.Ops.{validOp, Sizes, op-valid}
+use Rattle.definition.proofs.Parts.{after-nothing, after-after}
 use Rattle.format.specs.Steps.{nextAt}
 use Rattle.format.proofs.Taken.{taken-length}
 
--- the item at a place is refused with the number k
-pub record Refusal (f : List ℕ) (at k : ℕ) : Type 0 where
-  pub first : Item
-  pub rest : List Item
-  pub are : items (drop at f) ≡ first ∷ rest
-  pub refuses : opOf first ≡ refused k
-
--- the item at a place does o, and the next one stands at the place p
-pub record Step (f : List ℕ) (at : ℕ) (o : Op) (p : ℕ) : Type 0 where
-  pub first : Item
-  pub are : items (drop at f) ≡ first ∷ items (drop p f)
-  pub does : opOf first ≡ accepted o
-  pub ahead : at < p
-  pub inside : p ≤ length f
-
--- what an item's check and a count make, taken apart
+-- what an item's check and a place make, taken apart
 abbrev answer : ℕ → Checked Op → Checked (Option (Op × ℕ))
 answer p c = c >>= λ o. accepted (some (o, p))
 
@@ -48,47 +36,105 @@ answer-item (accepted w) p o n q =
     let e : _≡_ {A = Op × ℕ} (w, p) (o, n) = cc in
     (ap (λ (x : Op × ℕ). accepted (x .0)) e, ap (λ (x : Op × ℕ). x .1) e)
 
-module _ (f : List ℕ) (at : ℕ) where
-  -- at the end there is no item
-  pub at-end : nextAt at (drop at f) ≡ accepted none → items (drop at f) ≡ []
-  unfolding nextAt
-  at-end = go (drop at f)
-    where
-      go : (l : List ℕ) → nextAt at l ≡ accepted none → items l ≡ []
-      go [] q = items-nil
-      go (b ∷ t) q = absurd (answer-some (opOf (item b (taken b t))) (at + 1 + length (taken b t)) none q refl)
+-- by the table t, the item of the format f at a place does o, and the next one stands at the place p
+pub record Step (t : Table) (f : List ℕ) (at : ℕ) (o : Op) (p : ℕ) : Type 0 where
+  pub first : Item
+  pub does : opOf t first ≡ accepted o
+  pub are : ops t (drop at f) ≡ accepted o ∷ ops t (drop p f)
+  pub ahead : at < p
+  pub inside : p ≤ length f
 
-  pub at-refusal : (k : ℕ) → nextAt at (drop at f) ≡ refused k → Refusal f at k
-  unfolding nextAt
-  at-refusal k = go (drop at f) refl
-    where
-      go : (l : List ℕ) → drop at f ≡ l → nextAt at l ≡ refused k → Refusal f at k
-      go [] e q = let z : _≡_ {A = ℕ} 0 1 = cc in absurd (omega arith)
-      go (b ∷ t) e q = record {
-        first = item b (taken b t);
-        rest = items (drop (length (taken b t)) t);
-        are = ap items e ∙ items-cons b t;
-        refuses = answer-refused (opOf (item b (taken b t))) (at + 1 + length (taken b t)) k q;
+module _ (t : Table) where
+  -- what the items of a format do, one at a time
+  ops-cons : (b : ℕ) (s : List ℕ) → ops t (b ∷ s) ≡ opOf t (item b (taken t b s)) ∷ ops t (drop (length (taken t b s)) s)
+  ops-cons b s = ap (map (opOf t)) (items-cons t b s)
+
+  module _ (f : List ℕ) (at : ℕ) where
+    pub at-end : nextAt t at (drop at f) ≡ accepted none → ops t (drop at f) ≡ []
+    unfolding nextAt
+    at-end = go (drop at f)
+      where
+        go : (l : List ℕ) → nextAt t at l ≡ accepted none → ops t l ≡ []
+        go [] q = ap (map (opOf t)) (items-nil t)
+        go (b ∷ s) q = absurd (answer-some (opOf t (item b (taken t b s))) (at + 1 + length (taken t b s)) none q refl)
+
+    pub at-refusal : (k : ℕ) → nextAt t at (drop at f) ≡ refused k → (rest : List (Checked Op)) × (ops t (drop at f) ≡ refused k ∷ rest)
+    unfolding nextAt
+    at-refusal k = go (drop at f) refl
+      where
+        go : (l : List ℕ) → drop at f ≡ l → nextAt t at l ≡ refused k → (rest : List (Checked Op)) × (ops t (drop at f) ≡ refused k ∷ rest)
+        go [] e q = let z : _≡_ {A = ℕ} 0 1 = cc in absurd (omega arith)
+        go (b ∷ s) e q =
+            let rest : List (Checked Op) = ops t (drop (length (taken t b s)) s) in
+            (rest, ap (ops t) e ∙ ops-cons b s ∙ ap (λ (c : Checked Op). c ∷ rest) (answer-refused (opOf t (item b (taken t b s))) (at + 1 + length (taken t b s)) k q))
+
+    pub at-item : (o : Op) (p : ℕ) → nextAt t at (drop at f) ≡ accepted (some (o, p)) → Step t f at o p
+    unfolding nextAt taken
+    at-item o p = go (drop at f) refl (length-drop at f)
+      where
+        same : (b : ℕ) (s : List ℕ) (n : ℕ) → drop at f ≡ b ∷ s → drop n s ≡ drop (at + 1 + n) f
+        same b s n e = ap (drop (suc n)) (sym e) ∙ drop-drop (suc n) at f ∙ (let q : at + suc n ≡ at + 1 + n = omega arith in ap (λ (k : ℕ). drop k f) q)
+
+        go : (l : List ℕ) → drop at f ≡ l → length l ≡ length f - at → nextAt t at l ≡ accepted (some (o, p)) → Step t f at o p
+        go [] e h q = let z : _≡_ {A = ℕ} 0 1 = cc in absurd (omega arith)
+        go (b ∷ s) e h q =
+            let n = length (taken t b s) in
+            let x = answer-item (opOf t (item b (taken t b s))) (at + 1 + n) o p q in
+            let m = x .1 in
+            let i : n ≤ length s = taken-length t (t b .rule) s in
+            let rest : drop n s ≡ drop p f = same b s n e ∙ ap (λ (k : ℕ). drop k f) m in
+            record {
+              first = item b (taken t b s);
+              does = x .0;
+              are = ap (ops t) e ∙ ops-cons b s ∙ (λ j. (x .0) j ∷ ops t (rest j));
+              ahead = omega arith;
+              inside = omega arith;
+            }
+
+    -- a checked item, and a cursor that goes on inside the format
+    module _ {o : Op} {p : ℕ} (q : nextAt t at (drop at f) ≡ accepted (some (o, p))) where
+      pub valid : Sizes t → T (validOp o)
+      valid h = let x = at-item o p q in op-valid t h (x .first) o (x .does)
+
+      pub ahead : (at < p) × (p ≤ length f)
+      ahead = let x = at-item o p q in (x .ahead, x .inside)
+
+-- ---- a run: w is the whole of it; o was put out so far, and the state is s at a place
+module _ {S O : Type 0} (step : S → Op → Checked (S × O)) (nothing : O) (_⊕_ : O → O → O) where
+  infixl 60 _⊕_
+  abbrev onto : O → Checked (S × O) → Checked (S × O)
+  onto o c = after step nothing _⊕_ o c
+
+  pub record SoFar (t : Table) (f : List ℕ) (w : Checked (S × O)) (at : ℕ) (s : S) (o : O) : Type 0 where
+    pub whole : w ≡ onto o (run step nothing _⊕_ s (ops t (drop at f)))
+
+module _ {S O : Type 0} (step : S → Op → Checked (S × O)) (nothing : O) (_⊕_ : O → O → O)
+    (left : (o : O) → nothing ⊕ o ≡ o) (right : (o : O) → o ⊕ nothing ≡ o) (assoc : (a b c : O) → (a ⊕ b) ⊕ c ≡ a ⊕ (b ⊕ c)) (t : Table) (f : List ℕ) where
+  infixl 60 _⊕_
+  abbrev At : Checked (S × O) → ℕ → S → O → Type 0
+  At w at s o = SoFar step nothing _⊕_ t f w at s o
+
+  pub from-start : (s : S) (at : ℕ) → at ≡ 0 → At (run step nothing _⊕_ s (ops t f)) at s nothing
+  from-start s at e = record { whole = rw e (after-nothing step nothing _⊕_ left assoc (run step nothing _⊕_ s (ops t f))) }
+
+  module _ {w : Checked (S × O)} {at : ℕ} {s : S} {o : O} (h : At w at s o) where
+    -- the rest of the items, as they are
+    rest-is : (is : List (Checked Op)) → ops t (drop at f) ≡ is → w ≡ after step nothing _⊕_ o (run step nothing _⊕_ s is)
+    rest-is is e = h .whole ∙ ap (λ (x : List (Checked Op)). after step nothing _⊕_ o (run step nothing _⊕_ s x)) e
+
+    pub run-end : nextAt t at (drop at f) ≡ accepted none → w ≡ accepted (s, o)
+    run-end q = rest-is [] (at-end t f at q) ∙ ap (λ (x : O). accepted (s, x)) (right o)
+
+    pub run-refusal : (k : ℕ) → nextAt t at (drop at f) ≡ refused k → w ≡ refused k
+    run-refusal k q = let x = at-refusal t f at k q in rest-is (refused k ∷ x .0) (x .1)
+
+    module _ {i : Op} {p : ℕ} (q : nextAt t at (drop at f) ≡ accepted (some (i, p))) where
+      -- the item is refused
+      pub item-refused : (k : ℕ) → step s i ≡ refused k → w ≡ refused k
+      item-refused k e = rest-is _ (at-item t f at i p q .are) ∙ rw e
+
+      -- the item leads to the state u, and puts a out
+      pub item-on : (u : S) (a : O) → step s i ≡ accepted (u, a) → At w p u (o ⊕ a)
+      item-on u a e = record {
+        whole = rest-is _ (at-item t f at i p q .are) ∙ rw e (after-after step nothing _⊕_ left assoc o a (run step nothing _⊕_ u (ops t (drop p f))));
       }
-
-  pub at-item : (o : Op) (p : ℕ) → nextAt at (drop at f) ≡ accepted (some (o, p)) → Step f at o p
-  unfolding nextAt taken
-  at-item o p = go (drop at f) refl (length-drop at f)
-    where
-      same : (b : ℕ) (t : List ℕ) (n : ℕ) → drop at f ≡ b ∷ t → drop n t ≡ drop (at + 1 + n) f
-      same b t n e = ap (drop (suc n)) (sym e) ∙ drop-drop (suc n) at f ∙ (let q : at + suc n ≡ at + 1 + n = omega arith in ap (λ (k : ℕ). drop k f) q)
-
-      go : (l : List ℕ) → drop at f ≡ l → length l ≡ length f - at → nextAt at l ≡ accepted (some (o, p)) → Step f at o p
-      go [] e h q = let z : _≡_ {A = ℕ} 0 1 = cc in absurd (omega arith)
-      go (b ∷ t) e h q =
-          let n = length (taken b t) in
-          let x = answer-item (opOf (item b (taken b t))) (at + 1 + n) o p q in
-          let m = x .1 in
-          let i : n ≤ length t = taken-length (entryOf b .rule) t in
-          record {
-            first = item b (taken b t);
-            are = ap items e ∙ items-cons b t ∙ ap (λ (l : List ℕ). item b (taken b t) ∷ items l) (same b t n e ∙ ap (λ (k : ℕ). drop k f) m);
-            does = x .0;
-            ahead = omega arith;
-            inside = omega arith;
-          }

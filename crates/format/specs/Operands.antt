@@ -5,15 +5,10 @@ use mathlib.Core.List.{List}
 use lib.Dec.{ltb, leb}
 use lib.ListN.{length, drop}
 use Rattle.definition.specs.Answers.{Checked, refused, accepted, _>>=_}
-use Rattle.definition.specs.Items.{digits, takenBy, nextByte, numeralOf}
+use Rattle.definition.specs.Items.{digits, takenBy, nextByte, numeralOf, Numeral, Missing, TooLarge, Value}
 use Rattle.definition.specs.Ops.{sizeOr, limitOr, needed, naturalOf}
-use Rattle.definition.specs.declared.Class.{Class}
-use Rattle.definition.specs.declared.Class.the-variants as Class
-use Rattle.definition.specs.declared.NumeralRule.{NumeralRule}
-use Rattle.definition.specs.declared.NumeralRule.the-variants.{Nothing, Digits, DigitsBehindX, NextByte}
-use Rattle.definition.specs.declared.Entry.{Entry}
-use Rattle.definition.specs.declared.Numeral.{Numeral}
-use Rattle.definition.specs.declared.Numeral.the-variants.{Missing, TooLarge, Value}
+use Rattle.definition.specs.Options.{Table, Class, NumeralRule, Nothing, Digits, DigitsBehindX, NextByte, Entry}
+use Rattle.definition.specs.Options as Class
 use Rattle.definition.specs.declared.Op.{Op}
 use Rattle.definition.specs.declared.Op.the-variants as Op
 use Rattle.definition.specs.declared.Field.the-variants as Field
@@ -47,11 +42,11 @@ operandBy Class.Fill n m = accepted n
 operandBy Class.Align n m = refused 7
 
 -- by what the option takes
-abbrev pub operandWith : NumeralRule → Entry → List ℕ → Checked ℕ
-operandWith Nothing e s = operandBy (e .class) (e .size) Missing
-operandWith Digits e s = operandBy (e .class) (e .size) (numeralOf s)
-operandWith DigitsBehindX e s = operandBy (e .class) (e .size) Missing
-operandWith NextByte e s = naturalOf s
+abbrev pub operandWith : Table → NumeralRule → Entry → List ℕ → Checked ℕ
+operandWith t Nothing e s = operandBy (e .class) (e .size) Missing
+operandWith t Digits e s = operandBy (e .class) (e .size) (numeralOf s)
+operandWith t DigitsBehindX e s = operandBy (e .class) (e .size) Missing
+operandWith t NextByte e s = naturalOf t s
 
 -- what an option of a class does, with its operand; a byte that is no option has none, and may stand with X
 abbrev pub opFor : Class → ℕ → Op
@@ -71,12 +66,12 @@ abbrev pub taking : ℕ → Checked ℕ → Checked (ℕ × ℕ)
 taking i c = c >>= λ n. accepted (n, i)
 
 -- the operand of an option with the entry e, what follows its byte being s; and how many bytes it takes
-unfoldable pub operandAt : Entry → List ℕ → Checked (ℕ × ℕ)
-operandAt e s = taking (length (takenBy (e .rule) s)) (operandWith (e .rule) e (takenBy (e .rule) s))
+unfoldable pub operandAt : Table → Entry → List ℕ → Checked (ℕ × ℕ)
+operandAt t e s = taking (length (takenBy t (e .rule) s)) (operandWith t (e .rule) e (takenBy t (e .rule) s))
 
 -- the alignment of X, what follows it being s; and how many bytes it takes
-unfoldable pub naturalAt : List ℕ → Checked (ℕ × ℕ)
-naturalAt s = taking (length (nextByte s)) (naturalOf (nextByte s))
+unfoldable pub naturalAt : Table → List ℕ → Checked (ℕ × ℕ)
+naturalAt t s = taking (length (nextByte t s)) (naturalOf t (nextByte t s))
 
 -- what the numeral of an option shows at once, what follows its byte being s
 abbrev pub shownAt : ℕ → List ℕ → Short
@@ -97,10 +92,10 @@ roomFor1 (Operand.Refused k) = Unit {0}
 roomFor1 (Operand.Of n i) = i + 1 < 2 ^ 64
 
 -- the answer on s, which follows X
-abbrev pub behindOf : Behind → List ℕ → Checked (ℕ × ℕ)
-behindOf (Behind.Refused k) s = refused k
-behindOf (Behind.By n i) s = accepted (n, i)
-behindOf (Behind.Numeral e) s = oneMore (operandAt (entryAt e) (drop 1 s))
+abbrev pub behindOf : Table → Behind → List ℕ → Checked (ℕ × ℕ)
+behindOf t (Behind.Refused k) s = refused k
+behindOf t (Behind.By n i) s = accepted (n, i)
+behindOf t (Behind.Numeral e) s = oneMore (operandAt t (entryAt e) (drop 1 s))
 
 -- an option that stands behind X with a numeral of its own
 abbrev pub numeralBehind : Behind → List ℕ → Type 0

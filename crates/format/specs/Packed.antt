@@ -3,13 +3,10 @@ use Prim.Native.Nat.{ℕ, _/_, _%_}
 use mathlib.Core.Bool.{true, false, cond}
 use mathlib.Core.List.{List, [], _∷_}
 use lib.Dec.{ltb, eqb}
-use Rattle.definition.specs.Options.{entry}
-use Rattle.definition.specs.declared.Class.{Class}
-use Rattle.definition.specs.declared.Class.the-variants.{NoOption, Blank, Order, Limit, Number, Chars, ZeroEnded, Counted, Fill, Align}
+use lib.ListN.{getD}
+use Rattle.definition.specs.Options.{Table, entry, Class, NoOption, Blank, Order, Limit, Number, Chars, ZeroEnded, Counted, Fill, Align, Nothing, Digits, DigitsBehindX, NextByte, Entry}
 use Rattle.definition.specs.declared.Kind.{Kind}
 use Rattle.definition.specs.declared.Kind.the-variants.{SmallSigned, SmallUnsigned, Signed, Unsigned, LuaInteger, LuaUnsigned, Size, Single, Double}
-use Rattle.definition.specs.declared.NumeralRule.the-variants.{Nothing, Digits, DigitsBehindX, NextByte}
-use Rattle.definition.specs.declared.Entry.{Entry}
 
 -- the table, as the code has it
 unfoldable pub packed : List ℕ
@@ -51,3 +48,7 @@ entryAt e =
     (cond (ltb e 248) (entry Limit 8 Digits)
     (cond (ltb e 252) (entry Align 0 NextByte)
     (entry NoOption 0 Nothing))))))))
+
+-- the table that a list of such numbers, one for each byte value, stands for
+abbrev pub tableAt : List ℕ → Table
+tableAt l b = cond (ltb b 256) (entryAt (getD l b 0)) (entry NoOption 0 Nothing)

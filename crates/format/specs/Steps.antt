@@ -4,6 +4,7 @@ use mathlib.Core.List.{List, [], _∷_}
 use mathlib.Core.Option.{Option, none, some}
 use lib.ListN.{length}
 use Rattle.definition.specs.Answers.{Checked, refused, accepted, _>>=_}
+use Rattle.definition.specs.Options.{Table}
 use Rattle.definition.specs.Items.{item, taken}
 use Rattle.definition.specs.Ops.{opOf}
 use Rattle.definition.specs.declared.Op.{Op}
@@ -17,11 +18,11 @@ abbrev pub opAt : ℕ → ℕ → Op
 opAt e n = opFor (entryAt e .class) n
 
 -- the first item of s, which stands at a place: what it does, and the place after it; none at the end
-unfoldable pub nextAt : ℕ → List ℕ → Checked (Option (Op × ℕ))
-nextAt at [] = accepted none
-nextAt at (b ∷ s) = do
-  o ← opOf (item b (taken b s))
-  accepted (some (o, at + 1 + length (taken b s)))
+unfoldable pub nextAt : Table → ℕ → List ℕ → Checked (Option (Op × ℕ))
+nextAt t at [] = accepted none
+nextAt t at (b ∷ s) = do
+  o ← opOf t (item b (taken t b s))
+  accepted (some (o, at + 1 + length (taken t b s)))
 
 -- what the cursor's answer says
 abbrev pub nextOf : Next → Checked (Option (Op × ℕ))

@@ -16,7 +16,8 @@ use definition::Op;
 use definition::Setting;
 ghost use mathlib.Core.Path.{_≡_};
 ghost use lib.ListN.{drop};
-ghost use Rattle.format.specs.Packed.{packed, plainAt};
+ghost use Rattle.definition.proofs.Ops.{Sizes};
+ghost use Rattle.format.specs.Packed.{tableAt, plainAt};
 ghost use Rattle.format.specs.Operands.{opFor};
 ghost use Rattle.format.specs.Steps.{opAt, nextOf, nextAt};
 
@@ -92,8 +93,8 @@ impl Cursor {
 
     // The item here, and the cursor after it.
     pub fn next(self, table: &[u8; 256], format: &[u8]) -> Next
-        requires { ⌜ now table ≡ packed ⌝ }
-        ensures { λ r. ⌜ nextOf r ≡ nextAt (self .at) (drop (self .at) (now (format .entry))) ⌝ }
+        requires { ⌜ Sizes (tableAt (now table)) ⌝ }
+        ensures { λ r. ⌜ nextOf r ≡ nextAt (tableAt (now (table .entry))) (self .at) (drop (self .at) (now (format .entry))) ⌝ }
     {
         let at = self.at;
         if format.len() <= at {

@@ -18,9 +18,11 @@ use numeral::skip_digits;
 ghost use mathlib.Core.Path.{_≡_};
 ghost use Prim.Native.Nat.{_≤_, _<_};
 ghost use lib.ListN.{length, drop};
+ghost use Rattle.definition.specs.Options.{Table};
 ghost use Rattle.definition.specs.Ops.{sizeOr, limitOr};
-ghost use Rattle.definition.specs.declared.Numeral.the-variants.{Missing, Value};
-ghost use Rattle.format.specs.Packed.{packed, entryAt};
+ghost use Rattle.definition.specs.Items.{Missing, Value};
+ghost use Rattle.definition.proofs.Ops.{Sizes};
+ghost use Rattle.format.specs.Packed.{entryAt, tableAt};
 ghost use Rattle.format.specs.Operands.{operandBy, taking, operandAt, naturalAt, oneMore, shownAt, operandOf, roomFor1, behindOf, numeralBehind};
 
 // A refusal, or the operand and how many bytes the option takes.
@@ -99,7 +101,7 @@ fn without_numeral(e: u8) -> Operand
 fn by_numeral(rest: &[u8], e: u8) -> Operand
     requires low { ⌜ 192 ≤ e ⌝ }
     requires high { ⌜ e < 248 ⌝ }
-    ensures { λ r. ⌜ operandOf r ≡ operandAt (entryAt e) (now (rest .entry)) ⌝ }
+    ensures { λ r. ⌜ ((t : Table) → operandOf r ≡ operandAt t (entryAt e) (now (rest .entry))) ⌝ }
 {
     match read(rest) {
         Scan::Missing => without_numeral(e),
@@ -110,8 +112,8 @@ fn by_numeral(rest: &[u8], e: u8) -> Operand
 
 // What X takes.
 fn behind_x(table: &[u8; 256], rest: &[u8]) -> Behind
-    requires { ⌜ now table ≡ packed ⌝ }
-    ensures same { λ r. ⌜ behindOf r (now (rest .entry)) ≡ naturalAt (now (rest .entry)) ⌝ }
+    requires { ⌜ Sizes (tableAt (now table)) ⌝ }
+    ensures same { λ r. ⌜ behindOf (tableAt (now (table .entry))) r (now (rest .entry)) ≡ naturalAt (tableAt (now (table .entry))) (now (rest .entry)) ⌝ }
     ensures numeral { λ r. ⌜ numeralBehind r (now (rest .entry)) ⌝ }
 {
     if rest.len() == 0 {
@@ -153,9 +155,9 @@ fn one_more(x: Operand) -> Operand
 // The operand of an option that may have a numeral, of X, or the refusal of a byte that is no option. Behind X an option with a numeral
 // has the operand that it has by itself.
 fn operand_of(table: &[u8; 256], rest: &[u8], e: u8) -> Operand
-    requires table { ⌜ now table ≡ packed ⌝ }
+    requires table { ⌜ Sizes (tableAt (now table)) ⌝ }
     requires low { ⌜ 192 ≤ e ⌝ }
-    ensures { λ r. ⌜ operandOf r ≡ operandAt (entryAt e) (now (rest .entry)) ⌝ }
+    ensures { λ r. ⌜ operandOf r ≡ operandAt (tableAt (now (table .entry))) (entryAt e) (now (rest .entry)) ⌝ }
 {
     if e < LIMIT_END {
         return by_numeral(rest, e);
@@ -185,9 +187,9 @@ fn shown(format: &[u8], at: usize, e: u8) -> Short
 
 // The operand of an option whose byte stands before a place. What needs no numeral, or has one digit of 1 to 9 that it accepts, is seen at once.
 pub fn operand_at(table: &[u8; 256], format: &[u8], at: usize, e: u8) -> Operand
-    requires table { ⌜ now table ≡ packed ⌝ }
+    requires table { ⌜ Sizes (tableAt (now table)) ⌝ }
     requires inside { ⌜ at ≤ length (now format) ⌝ }
-    ensures { λ r. ⌜ operandOf r ≡ operandAt (entryAt e) (drop at (now (format .entry))) ⌝ }
+    ensures { λ r. ⌜ operandOf r ≡ operandAt (tableAt (now (table .entry))) (entryAt e) (drop at (now (format .entry))) ⌝ }
 {
     match shown(format, at, e) {
         Short::Missing => {

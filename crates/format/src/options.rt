@@ -1,8 +1,8 @@
 // The option table: a number for each byte value, which packs its class, its size and its numeral rule.
 use definition::Kind;
 ghost use mathlib.Core.Path.{_≡_};
-ghost use Rattle.definition.specs.Options.{entryOf};
-ghost use Rattle.format.specs.Packed.{packed, entryAt, kindAt, sizeAt};
+ghost use Rattle.definition.specs.Options.{options};
+ghost use Rattle.format.specs.Packed.{entryAt, tableAt, kindAt, sizeAt};
 
 // A number is sixteen times a class, and the size:
 // below 112 a number of fixed size, by its kind, 84 for f;
@@ -290,15 +290,14 @@ pub const SINGLE: u8 = 84;
 
 // The option table, for a caller to lend to the cursor.
 pub fn table() -> [u8; 256]
-    ensures { λ r. ⌜ r ≡ packed ⌝ }
+    ensures { λ r. ⌜ tableAt r ≡ options ⌝ }
 {
     OPTIONS
 }
 
 // The entry of a byte.
 pub fn entry(table: &[u8; 256], b: u8) -> u8
-    requires { ⌜ now table ≡ packed ⌝ }
-    ensures { λ r. ⌜ entryAt r ≡ entryOf b ⌝ }
+    ensures { λ r. ⌜ entryAt r ≡ tableAt (now (table .entry)) b ⌝ }
 {
     table[b as usize]
 }

@@ -11,7 +11,7 @@ use lib.ListN.{length, getD, take, drop, length-take, length-drop, drop-of-lengt
 use lib.Seq.{drop-cons, take-all}
 use borrow.Author.Tests.{lt-ltb, le-ltb, ltb-false, leb-true, ne-eqb}
 use Rattle.definition.specs.Items.{isDigit, digits, value, numeralOf}
-use Rattle.definition.specs.declared.Numeral.the-variants as Numeral
+use Rattle.definition.specs.Items as Numeral
 use Rattle.numeral.specs.Numerals.{digitFirst, grown, digitOn, readOn, scanBy, scanned, shortOf}
 use Rattle.numeral.specs.declared.Digit.{Digit}
 use Rattle.numeral.specs.declared.Digit.the-variants as Digit

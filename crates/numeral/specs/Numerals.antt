@@ -5,9 +5,8 @@ use mathlib.Core.Bool.{Bool, true, false, cond}
 use mathlib.Core.List.{List, [], _∷_}
 use lib.Dec.{ltb, eqb}
 use lib.ListN.{length}
-use Rattle.definition.specs.Items.{isDigit, value}
-use Rattle.definition.specs.declared.Numeral.{Numeral}
-use Rattle.definition.specs.declared.Numeral.the-variants as Numeral
+use Rattle.definition.specs.Items.{isDigit, value, Numeral}
+use Rattle.definition.specs.Items as Numeral
 use Rattle.numeral.specs.declared.Digit.{Digit}
 use Rattle.numeral.specs.declared.Digit.the-variants as Digit
 use Rattle.numeral.specs.declared.Scan.{Scan}

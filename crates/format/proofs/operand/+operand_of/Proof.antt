@@ -1,16 +1,16 @@
 -- Behind X an option with a numeral is asked for its own operand, with one byte less to look at.
 use Prim.Native.Nat.{ℕ, _<_}
-use mathlib.Core.Path.{sym, ap, _∙_}
+use mathlib.Core.Path.{_≡_, ap, _∙_}
 use native.Mathlib.Nat.{le-refl}
 use native.Mathlib.Omega.{arith}
 use borrow.Fn.Kinds.{In}
 use borrow.Fn.PlainCycle.{Measures, is, falls, and}
 use lib.ListN.{length, drop, length-drop}
-use Rattle.format.specs.Operands.{operandAt, oneMore, behindOf}
-use Rattle.format.specs.Packed.{entryAt}
-use Rattle.format.specs.declared.operand.Behind.{Behind}
+use Rattle.format.specs.Operands.{operandOf, operandAt, oneMore}
+use Rattle.format.specs.Packed.{entryAt, tableAt}
+use Rattle.format.specs.declared.operand.Behind.the-variants as Behind
+use Rattle.format.proofs.Operands.{operand-none, behind-is, room}
 use Rattle.numeral.proofs.Digits.{part-rest}
-use Rattle.format.proofs.Operands.{operand-none, operand-x, room}
 use Rattle.format.proofs.operand.operand_of.Reads as operand-of
 use Rattle.format.proofs.operand.operand_of.Kinds as operand-of-kinds
 use Rattle.format.proofs.operand.+operand_of.Lts-operand_of as operand-of-lts
@@ -38,10 +38,12 @@ operand-of-by-numeral-requires : (t : ℕ) → operand-of-lts.Need-by-numeral-re
 operand-of-by-numeral-requires t c κs = (c .before .before .pre .1 .1, c .if1 .taken)
 
 operand-of-returns : (t : ℕ) → operand-of-lts.Need-returns (claims t) (operand-of-at t) operand-of.Post
-operand-of-returns t c = c .by-numeral .ensures
+operand-of-returns t c = c .by-numeral .ensures (tableAt (c .before .before .before .args .table .now))
 
 operand-of-returns-2 : (t : ℕ) → operand-of-lts.Need-returns-2 (claims t) (operand-of-at t) operand-of.Post
-operand-of-returns-2 t c = operand-none (c .before .before .before .args .e) (c .if2 .taken) (c .before .before .before .args .rest .now)
+operand-of-returns-2 t c =
+    let a = c .before .before .before .args in
+    operand-none (tableAt (a .table .now)) (a .e) (c .if2 .taken) (a .rest .now)
 
 operand-of-behind-x-requires : (t : ℕ) → operand-of-lts.Need-behind-x-requires (claims t) (operand-of-at t) operand-of.Post
 operand-of-behind-x-requires t c κs = c .before .before .before .pre .1 .0
@@ -70,23 +72,38 @@ operand-of-operand-of-requires t c κs =
     let h = (rw (c .before .before .f .given .1) at (c .before .before .before .before .behind-x .ensures .1)) in
     (rw (part-rest 1 s, length-drop) (omega arith), (c .before .before .before .before .before .before .before .before .pre .1 .0, h .0))
 
+-- what the step behind X says of the rest
+stepped : (t : ℕ) (c : operand-of-lts.After-operand-of (claims t) (operand-of-at t) operand-of.Post) → operandOf (c .operand-of .result)
+    ≡ operandAt (tableAt (c .before .before .before .before .before .before .before .before .before .args .table .now)) (entryAt (c .before .before .before .f .given .0 .0)) (drop 1 (c .before .before .before .before .before .before .before .before .before .args .rest .now))
+stepped t c =
+    let a = c .before .before .before .before .before .before .before .before .before .args in
+    c .operand-of .ensures ∙ ap (operandAt (tableAt (a .table .now)) (entryAt (c .before .before .before .f .given .0 .0))) (part-rest 1 (a .rest .now))
+
 operand-of-one-more-requires : (t : ℕ) → operand-of-lts.Need-one-more-requires (claims t) (operand-of-at t) operand-of.Post
 operand-of-one-more-requires t c κs =
-    let s = c .before .before .before .before .before .before .before .before .before .args .rest .now in
-    room (c .operand-of .result) (entryAt (c .before .before .before .f .given .0 .0)) (drop 1 s) (c .operand-of .ensures ∙ ap (operandAt (entryAt (c .before .before .before .f .given .0 .0))) (part-rest 1 s)) (rw length-drop (omega arith))
+    let a = c .before .before .before .before .before .before .before .before .before .args in
+    room (tableAt (a .table .now)) (c .operand-of .result) (entryAt (c .before .before .before .f .given .0 .0)) (drop 1 (a .rest .now)) (stepped t c) (rw length-drop (omega arith))
 
 operand-of-returns-3 : (t : ℕ) → operand-of-lts.Need-returns-3 (claims t) (operand-of-at t) operand-of.Post
-operand-of-returns-3 t c = sym (ap (λ (x : Behind). behindOf x (c .before .before .before .before .before .before .before .args .rest .now)) (c .before .k .given .1)) ∙ c .before .before .before .behind-x .ensures .0 ∙ operand-x (c .before .before .before .before .before .before .before .args .e) (c .before .before .before .before .before .if1 .left) (c .before .before .before .before .if2 .left) (c .before .before .before .before .before .before .before .args .rest .now)
+operand-of-returns-3 t c =
+    let b = c .before .before .before in
+    let a = b .before .before .before .before .args in
+    behind-is (tableAt (a .table .now)) (a .e) (b .before .before .if1 .left) (b .before .if2 .left) (a .rest .now) (b .behind-x .result) (Behind.Refused (c .before .k .given .0 .0)) (c .before .k .given .1) (b .behind-x .ensures .0)
 
 operand-of-returns-4 : (t : ℕ) → operand-of-lts.Need-returns-4 (claims t) (operand-of-at t) operand-of.Post
-operand-of-returns-4 t c = sym (ap (λ (x : Behind). behindOf x (c .before .before .before .before .before .before .before .args .rest .now)) (c .before .n .given .1)) ∙ c .before .before .before .behind-x .ensures .0 ∙ operand-x (c .before .before .before .before .before .before .before .args .e) (c .before .before .before .before .before .if1 .left) (c .before .before .before .before .if2 .left) (c .before .before .before .before .before .before .before .args .rest .now)
+operand-of-returns-4 t c =
+    let b = c .before .before .before in
+    let a = b .before .before .before .before .args in
+    let n = c .before .n .given in
+    behind-is (tableAt (a .table .now)) (a .e) (b .before .before .if1 .left) (b .before .if2 .left) (a .rest .now) (b .behind-x .result) (Behind.By (n .0 .0) (n .0 .1 .0)) (n .1) (b .behind-x .ensures .0)
 
 operand-of-returns-5 : (t : ℕ) → operand-of-lts.Need-returns-5 (claims t) (operand-of-at t) operand-of.Post
 operand-of-returns-5 t c =
-    let s = c .before .before .before .before .before .before .before .before .before .before .args .rest .now in
-    c .one-more .ensures
-    ∙ ap oneMore (c .before .operand-of .ensures ∙ ap (operandAt (entryAt (c .before .before .before .before .f .given .0 .0))) (part-rest 1 s))
-    ∙ sym (ap (λ (x : Behind). behindOf x (c .before .before .before .before .before .before .before .before .before .before .args .rest .now)) (c .before .before .before .before .f .given .1)) ∙ c .before .before .before .before .before .before .behind-x .ensures .0 ∙ operand-x (c .before .before .before .before .before .before .before .before .before .before .args .e) (c .before .before .before .before .before .before .before .before .if1 .left) (c .before .before .before .before .before .before .before .if2 .left) (c .before .before .before .before .before .before .before .before .before .before .args .rest .now)
+    let f = c .before .before .before .before .f .given in
+    let b = c .before .before .before .before .before .before in
+    let a = b .before .before .before .before .args in
+    c .one-more .ensures ∙ ap oneMore (stepped t (c .before))
+    ∙ behind-is (tableAt (a .table .now)) (a .e) (b .before .before .if1 .left) (b .before .if2 .left) (a .rest .now) (b .behind-x .result) (Behind.Numeral (f .0 .0)) (f .1) (b .behind-x .ensures .0)
 
 pub +operand-of-spec : {M : Type 1} → statement M
 +operand-of-spec = close μ-operand-of λ t. operand-of-lts.spec (claims t)

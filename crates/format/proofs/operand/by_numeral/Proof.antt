@@ -27,17 +27,17 @@ with-numeral-requires c κs = search needs
 returns : tie.Need-returns
 returns c =
     let b = c .before .before .before .before .before in
-    missing-is (b .args .e) (b .pre .0) (b .pre .1) (now (b .args .rest)) (sym (c .before .before .before .read .ensures) ∙ c .before .enum-told .given .1) _ (c .without-numeral .ensures)
+    λ t. missing-is t (b .args .e) (b .pre .0) (b .pre .1) (now (b .args .rest)) (sym (c .before .before .before .read .ensures) ∙ c .before .enum-told .given .1) _ (c .without-numeral .ensures)
 
 returns-2 : tie.Need-returns-2
 returns-2 c =
     let b = c .before .before .before .before in
-    large-is (b .args .e) (b .pre .0) (b .pre .1) (now (b .args .rest)) (sym (c .before .before .read .ensures) ∙ c .enum-told2 .given .1)
+    λ t. large-is t (b .args .e) (b .pre .0) (b .pre .1) (now (b .args .rest)) (sym (c .before .before .read .ensures) ∙ c .enum-told2 .given .1)
 
 returns-3 : tie.Need-returns-3
 returns-3 c =
     let b = c .before .before .before .before .before .before in
-    value-is (b .args .e) (b .pre .0) (b .pre .1) (now (b .args .rest)) _ _ (sym (c .before .before .before .before .read .ensures) ∙ c .before .before .n .given .1) _ (c .with-numeral .ensures)
+    λ t. value-is t (b .args .e) (b .pre .0) (b .pre .1) (now (b .args .rest)) _ _ (sym (c .before .before .before .before .read .ensures) ∙ c .before .before .n .given .1) _ (c .with-numeral .ensures)
 
 pub by-numeral-spec : {M : Type 1} → statement M
 by-numeral-spec =

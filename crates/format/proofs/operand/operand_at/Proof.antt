@@ -7,7 +7,7 @@ use borrow.Author.Needs.{needs}
 use denote.Ref.{now}
 use lib.ListN.{drop}
 use Rattle.format.specs.Operands.{operandAt}
-use Rattle.format.specs.Packed.{entryAt}
+use Rattle.format.specs.Packed.{entryAt, tableAt}
 use Rattle.numeral.proofs.Digits.{part-rest}
 use Rattle.format.proofs.Shown.{shown-missing, shown-digit, digit-size, digit-limit, shown-long}
 use Rattle.format.proofs.operand.operand_at.Statement.{statement}
@@ -25,7 +25,7 @@ size-of-requires c κs = search needs
 returns : tie.Need-returns
 returns c =
     let a = c .before .before .before .before .before .before .args in
-    rw (c .size-of .ensures) (shown-missing (a .e) (drop (a .at) (now (a .format))) (sym (c .before .before .before .before .shown .ensures) ∙ c .before .before .enum-told .given .1) (c .before .if1 .taken))
+    rw (c .size-of .ensures) (shown-missing (tableAt (now (a .table))) (a .e) (drop (a .at) (now (a .format))) (sym (c .before .before .before .before .shown .ensures) ∙ c .before .before .enum-told .given .1) (c .before .if1 .taken))
 
 enum-known-d : tie.Need-enum-known-d
 enum-known-d c = search needs
@@ -34,7 +34,7 @@ returns-2 : tie.Need-returns-2
 returns-2 c =
     let a = c .before .before .before .before .before .before .args in
     let s = drop (a .at) (now (a .format)) in
-    digit-size (a .e) s _ (shown-digit (a .e) s _ (sym (c .before .before .before .before .shown .ensures) ∙ c .before .before .d .given .1)) (c .if2 .taken)
+    digit-size (tableAt (now (a .table))) (a .e) s _ (shown-digit (tableAt (now (a .table))) (a .e) s _ (sym (c .before .before .before .before .shown .ensures) ∙ c .before .before .d .given .1)) (c .if2 .taken)
 
 is-power-requires : tie.Need-is-power-requires
 is-power-requires c κs = search needs
@@ -43,7 +43,7 @@ returns-3 : tie.Need-returns-3
 returns-3 c =
     let a = c .before .before .before .before .before .before .before .before .args in
     let s = drop (a .at) (now (a .format)) in
-    digit-limit (a .e) s _ (shown-digit (a .e) s _ (sym (c .before .before .before .before .before .before .shown .ensures) ∙ c .before .before .before .before .d .given .1)) (c .before .before .if2 .left) (sym (c .before .is-power .ensures) ∙ c .if3 .taken)
+    digit-limit (tableAt (now (a .table))) (a .e) s _ (shown-digit (tableAt (now (a .table))) (a .e) s _ (sym (c .before .before .before .before .before .before .shown .ensures) ∙ c .before .before .before .before .d .given .1)) (c .before .before .if2 .left) (sym (c .before .is-power .ensures) ∙ c .if3 .taken)
 
 enum-told-2 : tie.Need-enum-told-2
 enum-told-2 c = search needs
@@ -60,13 +60,13 @@ part-operand-of-end c = search needs
 operand-of-requires : tie.Need-operand-of-requires
 operand-of-requires c κs =
     let a = c .before .before .before .before .args in
-    let low : 192 ≤ a .e = ⊎-elim (λ w. omega (arith, w .2 .left)) (⊎-elim (λ w. omega (arith, w .3 .left)) (λ w. shown-long (a .e) (drop (a .at) (now (a .format))) (sym (c .before .before .shown .ensures) ∙ w .1 .given .1))) (c .before .match .came) in
+    let low : 192 ≤ a .e = ⊎-elim (λ w. omega (arith, w .2 .left)) (⊎-elim (λ w. omega (arith, w .3 .left)) (λ w. shown-long (tableAt (now (a .table))) (a .e) (drop (a .at) (now (a .format))) (sym (c .before .before .shown .ensures) ∙ w .1 .given .1))) (c .before .match .came) in
     (c .before .before .before .before .pre .0, low)
 
 returns-4 : tie.Need-returns-4
 returns-4 c =
     let a = c .before .before .before .before .before .args in
-    c .operand-of .ensures ∙ ap (operandAt (entryAt (a .e))) (part-rest (a .at) (now (a .format)))
+    c .operand-of .ensures ∙ ap (operandAt (tableAt (now (a .table))) (entryAt (a .e))) (part-rest (a .at) (now (a .format)))
 
 pub operand-at-spec : {M : Type 1} → statement M
 operand-at-spec =

@@ -1,12 +1,13 @@
--- The constant has the numbers of the packed table.
-use mathlib.Core.Path.{refl}
-use Rattle.format.specs.Packed.{packed}
+-- The constant has the numbers of the packed table, which is the option table.
+use mathlib.Core.Path.{_≡_, refl, ap, _∙_}
+use Rattle.format.specs.Packed.{packed, tableAt}
+use Rattle.format.proofs.Table.{packed-options}
 use Rattle.format.proofs.options.table.Statement.{statement}
 use Rattle.format.proofs.options.table.Tie as tie
 
 returns : tie.Need-returns
 unfolding packed
-returns c = refl
+returns c = packed-options
 
 pub table-spec : {M : Type 1} → statement M
 table-spec = tie.close (tie.spec returns)

@@ -3,7 +3,6 @@ use Rattle.plan.proofs.Words.{says-integer, says-refused, small-word, s
 use mathlib.Core.Path.{_≡_, refl, sym, ap, _∙_}
 use Rattle.definition.specs.Answers.{accepted}
 use Rattle.numbers.specs.Meaning.{integerFound}
-use Rattle.plan.proofs.Words.{small-word, small-none}
 use borrow.Author.Needs.{needs}
 use Rattle.plan.proofs.word.any_integer.Statement.{statement}
 use Rattle.plan.proofs.word.any_integer.Tie as tie

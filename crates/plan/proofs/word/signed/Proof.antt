@@ -4,7 +4,6 @@ use mathlib.Core.Path.{_≡_, refl, sym, ap, _∙_}
 use Rattle.definition.specs.Answers.{accepted}
 use Rattle.definition.specs.Fields.{inSigned}
 use Rattle.numbers.specs.Meaning.{integerFound}
-use Rattle.plan.proofs.Words.{signed-word, signed-out, signed-none}
 use borrow.Author.Needs.{needs}
 use Rattle.plan.proofs.word.signed.Statement.{statement}
 use Rattle.plan.proofs.word.signed.Tie as tie
