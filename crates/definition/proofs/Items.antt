@@ -9,7 +9,6 @@ use Rattle.definition.specs.Options.{Table, NumeralRule, Nothing, Digits
 use Rattle.definition.specs.Items.{Item, item, items, itemsPast, texts, taken, takenBy, digits, nextByte, isDigit, isNumber, behindX}
 use Rattle.definition.specs.Claims.{joined}
 
-
 -- what is taken stands at the front
 abbrev Front : (List ℕ → List ℕ) → List ℕ → Type 0
 Front f s = f s ++ drop (length (f s)) s ≡ s

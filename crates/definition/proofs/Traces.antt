@@ -9,9 +9,9 @@ use Rattle.definition.specs.Options.{options}
 use Rattle.definition.specs.Ops.{ops}
 use Rattle.definition.specs.Values.{Value}
 use Rattle.definition.specs.Lists.{listOf}
-use Rattle.definition.specs.States.{start, state}
+use Rattle.definition.specs.States.{start}
 use Rattle.definition.specs.Writing.{Place, place}
-use Rattle.definition.specs.Reading.{Read, offset, positionOf, offsetOf, readOp, reading, readFrom, read, valuesOf}
+use Rattle.definition.specs.Reading.{Read, offsetIn, atOffset, positionOf, offsetOf, readOp, reading, readFrom, read, valuesOf}
 use Rattle.definition.specs.Calls.{into, atMost63, unpack, listRead, unpackedOf, stringUnpack}
 use Rattle.definition.specs.declared.Op.{Op}
 use Rattle.definition.specs.declared.Offset.{Offset}
@@ -60,8 +60,8 @@ abbrev pub unpackValues : List ℕ → List ℕ → ℤ → Checked (List Value 
 unpackValues f d p = do
   require (atMost63 (length d)) 21
   o ← offsetOf p (length d)
-  r ← readingValues (place (state (start .big) (start .limit) (o .0)) (drop (o .0) d)) (ops options f)
-  accepted (r .1, positionOf (offset (r .0 .state .length)))
+  r ← readingValues (place (atOffset start o) (drop (o .0) d)) (ops options f)
+  accepted (r .1, positionOf (offsetIn (r .0 .state)))
 
 -- the list and the next position, of values
 abbrev pub listed : List Value × Position → Unpacked × List ℕ
@@ -72,10 +72,10 @@ unfolding stringUnpack unpack read
 unpack-values f d p b = ap (into b) (go (require (atMost63 (length d)) 21) (offsetOf p (length d)))
   where
     from : Offset → Place ℕ
-    from o = place (state (start .big) (start .limit) (o .0)) (drop (o .0) d)
+    from o = place (atOffset start o) (drop (o .0) d)
 
     end : Place ℕ → Position
-    end r = positionOf (offset (r .state .length))
+    end r = positionOf (offsetIn (r .state))
 
     last : (c : Checked (Place ℕ × List Read)) → (c >>= (λ r. accepted (r .1, end (r .0))) >>= λ r. accepted (unpackedOf r, listRead (r .0)))
         ≡ (mapOut valuesOf c >>= (λ r. accepted (r .1, end (r .0))) >>= λ r. accepted (listed r))

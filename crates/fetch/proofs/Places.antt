@@ -5,7 +5,7 @@ use mathlib.Core.Path.{_≡_, refl, sym, ap, _∙_, subst}
 use mathlib.Core.Bool.{Bool}
 use mathlib.Core.List.{List, [], _∷_}
 use lib.Dec.{T}
-use lib.ListN.{length, drop, length-drop}
+use lib.ListN.{length, take, drop, length-drop}
 use lib.Seq.{drop-drop}
 use types.Run.{OneOf, miss}
 use denote.Enum.Declared.{tagOf}
@@ -14,7 +14,8 @@ use Rattle.definition.specs.Answers.{Checked, refused, accepted, _>>=_}
 use Rattle.definition.specs.Values.{Value}
 use Rattle.definition.specs.States.{set, further, natural, padding}
 use Rattle.definition.specs.Writing.{Place, place}
-use Rattle.definition.specs.Reading.{atOffset, skipped, readField, readOp}
+use Rattle.definition.specs.Reading.{Read, valuesOf, atOffset, skipped, readField, readOp}
+use Rattle.definition.proofs.Traces.{mapOut, readValue}
 use Rattle.definition.specs.declared.State.{State}
 use Rattle.definition.specs.declared.Offset.{Offset}
 use Rattle.definition.specs.declared.Kind.{Kind}
@@ -26,6 +27,7 @@ use Rattle.definition.specs.declared.Op.{Op}
 use Rattle.definition.specs.declared.Op.the-variants as Op
 use Rattle.definition.proofs.Field.{the-type}
 use Rattle.definition.proofs.Fields.{validField}
+use Rattle.definition.specs.Fields.{decode}
 use Rattle.definition.proofs.Ops.{validOp}
 use Rattle.definition.proofs.Numbers.{validSize}
 use Rattle.fetch.specs.Readings.{Within, valueOf, isText, decodedIs, DecodedInside, Decodes, Stands, placeIn, Skips, afterOf, Countable, fetchedIs, FetchedStands, Fetches}
@@ -79,9 +81,17 @@ module _ {d : List ℕ} {s : State} {f : Field} where
     after-stands (Decoded.Refused j) i = tt
     after-stands (Decoded.Read r n) i = (i .1, i .0)
 
-    field-is : read-on (decodedIs d x) ≡ readOp (placeIn d s) (Op.Put f)
+    field-is : read-on (decodedIs d x) ≡ readValue (placeIn d s) (Op.Put f)
     unfolding readOp readField
-    field-is = ap read-on (g .says) ∙ rw (← p .says)
+    field-is = ap read-on (g .says) ∙ rw (← p .says) (go (decode (s .big) f (drop (t .0) d)))
+      where
+        place-is : Place ℕ
+        place-is = placeIn d (atOffset s t)
+
+        go : (c : Checked (Value × ℕ)) → read-on c
+            ≡ mapOut valuesOf (c >>= λ v. accepted (skipped place-is (v .1), record { field = f; start = t; bytes = take (v .1) (drop (t .0) d); value = v .0 } ∷ []))
+        go (refused k) = refl
+        go (accepted v) = refl
 
     pub field-after : {r : Fetched} → r ≡ afterOf t x → Fetches d s (Op.Put f) r
     field-after e = rw e (record { says = after-is x ∙ field-is; stands = after-stands x (g .inside) })

@@ -9,7 +9,8 @@ use Rattle.definition.specs.Answers.{Checked, refused, accepted}
 use Rattle.definition.specs.Values.{Value, integer, float, text}
 use Rattle.definition.specs.Fields.{upToZero, decode}
 use Rattle.definition.specs.Writing.{Place, place}
-use Rattle.definition.specs.Reading.{offset, offsetIn, atOffset, readPad, readOp}
+use Rattle.definition.specs.Reading.{offset, offsetIn, atOffset, readPad}
+use Rattle.definition.proofs.Traces.{readValue}
 use Rattle.definition.specs.declared.State.{State}
 use Rattle.definition.specs.declared.Offset.{Offset}
 use Rattle.definition.specs.declared.Field.{Field}
@@ -117,5 +118,5 @@ FetchedStands d (Fetched.Read r o) = Within d o × Inside d r
 
 -- r is what an item does at the place in d
 pub record Fetches (d : List ℕ) (s : State) (o : Op) (r : Fetched) : Type 0 where
-  pub says : fetchedIs d s r ≡ readOp (placeIn d s) o
+  pub says : fetchedIs d s r ≡ readValue (placeIn d s) o
   pub stands : FetchedStands d r

@@ -15,8 +15,8 @@ use notation::refused;
 use notation::room;
 use notation::size;
 use notation::unpack;
-use write::pack_continued;
 use write::Total;
+use write::pack_continued;
 
 // What every byte of a result buffer is before a call.
 pub const FILL: u8 = 238;

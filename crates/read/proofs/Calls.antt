@@ -9,18 +9,20 @@ use lib.IntN.{ℤ, pos, negsuc}
 use lib.ListN.{length}
 use borrow.Author.Tests.{le-leb, lt-leb, leb-true}
 use Rattle.definition.specs.Answers.{Checked, refused, accepted, _>>=_}
+use Rattle.definition.specs.Options.{Table, options}
 use Rattle.definition.specs.Values.{Value}
 use Rattle.definition.specs.Lists.{listOf}
 use Rattle.definition.specs.States.{start}
 use Rattle.definition.specs.Writing.{Place}
-use Rattle.definition.specs.Reading.{offset, positionOf, offsetOf, offsetIn, atOffset, readFrom, read}
-use Rattle.definition.specs.Calls.{Call, call, into, unpack, unpackedOf, stringUnpack}
+use Rattle.definition.specs.Reading.{offset, positionOf, offsetOf, offsetIn, atOffset, read}
+use Rattle.definition.specs.Calls.{Call, call, into, unpack, stringUnpack}
 use Rattle.definition.specs.declared.State.{State}
 use Rattle.definition.specs.declared.Offset.{Offset}
 use Rattle.definition.specs.declared.Position.{Position}
 use Rattle.definition.specs.declared.Unpacked.{Unpacked}
 use Rattle.definition.proofs.Answers.{same, passed, true-not-false}
 use Rattle.definition.proofs.Calls.{into-fits}
+use Rattle.definition.proofs.Traces.{listed, unpack-values}
 use Rattle.read.specs.Runs.{readAt, Reads, Fits, listInto, listAfter}
 
 -- an offset of data is inside it
@@ -38,9 +40,9 @@ offset-inside (negsuc k) len {o} e =
     let i : len - suc k ≡ o .0 = ap (λ (x : Offset). x .0) (same (q .1)) in
     omega (arith, i)
 
--- a result that is longer than the buffer
-into-long : {A : Type 0} (b : List ℕ) (a : A) (s : List ℕ) → length b < length s → into b (accepted (a, s)) ≡ call (refused 22) b
-into-long b a s h = rw (lt-leb (length s) (length b) h)
+-- a buffer that is shorter than the result
+into-short : {A : Type 0} (b : List ℕ) (a : A) (s : List ℕ) → length b < length s → into b (accepted (a, s)) ≡ call (refused 22) b
+into-short b a s h = rw (lt-leb (length s) (length b) h)
 
 -- a call that is accepted with a length and a position
 abbrev callWith : ℕ → Position → List ℕ → Call Unpacked
@@ -49,8 +51,8 @@ callWith n v l = call (accepted (record { length = n; next = v })) l
 same-call : {m n : ℕ} {u v : Position} {k l : List ℕ} → m ≡ n → u ≡ v → k ≡ l → callWith m u k ≡ callWith n v l
 same-call e f g = rw (e, f, g)
 
--- of a format f, data d, a start p and a list buffer b
-module _ (f d : List ℕ) (p : ℤ) (b : List ℕ) (small : length d < 2 ^ 63) where
+-- of a format f by the option table, data d, a start p and a list buffer b
+module _ (t : Table) (is : t ≡ options) (f d : List ℕ) (p : ℤ) (b : List ℕ) (small : length d < 2 ^ 63) where
   no-21 : leb (length d) (2 ^ 63 - 1) ≡ true
   no-21 = le-leb (length d) (2 ^ 63 - 1) (omega arith)
 
@@ -62,28 +64,27 @@ module _ (f d : List ℕ) (p : ℤ) (b : List ℕ) (small : length d < 2 ^ 63) w
   module _ {o : Offset} (e : accepted o ≡ offsetOf p (length d)) {s : State} (at : s ≡ atOffset start o) where
     -- what the call makes of a reading
     abbrev called : Checked (Place ℕ × List Value) → Call Unpacked
-    called w = into b (w >>= λ r. accepted (unpackedOf (r .1, positionOf (offsetIn (r .0 .state))), listOf (r .1)))
+    called w = into b (w >>= λ r. accepted (listed (r .1, positionOf (offsetIn (r .0 .state)))))
 
-    called-is : called (readAt f d s) ≡ stringUnpack f d p b
-    unfolding stringUnpack unpack read
-    called-is = rw (at, no-21, ← e) (go (readFrom f d o))
+    called-is : called (readAt t f d s) ≡ stringUnpack f d p b
+    called-is = rw (is, at) (go (readAt options f d (atOffset start o)) ∙ sym (unpack-values f d p b ∙ rw (no-21, ← e)))
       where
         go : (w : Checked (Place ℕ × List Value))
-            → called w ≡ into b ((w >>= λ r. accepted (r .1, positionOf (offsetIn (r .0 .state)))) >>= λ r. accepted (unpackedOf r, listOf (r .0)))
+            → called w ≡ into b ((w >>= λ r. accepted (r .1, positionOf (offsetIn (r .0 .state)))) >>= λ r. accepted (listed r))
         go (refused k) = refl
         go (accepted r) = refl
 
     -- l is the buffer after the first pass, which is as it was
     module _ {l : List ℕ} (kept : l ≡ b) where
-      pub call-refused : {k : ℕ} → readAt f d s ≡ refused k → call (refused k) l ≡ stringUnpack f d p b
+      pub call-refused : {k : ℕ} → readAt t f d s ≡ refused k → call (refused k) l ≡ stringUnpack f d p b
       call-refused {k} q = ap (call (refused k)) kept ∙ ap called (sym q) ∙ called-is
 
       -- the first pass answers the length n and the offset u
-      module _ {n : ℕ} {u : Offset} (r : Reads d (readAt f d s) n u) (short : length b < 2 ^ 63) where
+      module _ {n : ℕ} {u : Offset} (r : Reads d (readAt t f d s) n u) (short : length b < 2 ^ 63) where
         pub call-long : length l < n → call (refused 22) l ≡ stringUnpack f d p b
         call-long h =
             ap (call (refused 22)) kept
-            ∙ sym (into-long b _ (listOf (r .values)) (omega (arith, r .counts, ap length kept)))
+            ∙ sym (into-short b _ (listOf (r .values)) (omega (arith, r .counts, ap length kept)))
             ∙ ap called (sym (r .accepts))
             ∙ called-is
 
@@ -91,12 +92,12 @@ module _ (f d : List ℕ) (p : ℤ) (b : List ℕ) (small : length d < 2 ^ 63) w
           exact : n ≡ length (listOf (r .values))
           exact = omega (arith, r .counts, ap length kept)
 
-          pub call-fits : Fits f d s l
+          pub call-fits : Fits t f d s l
           call-fits = record { next = r .next; values = r .values; accepts = r .accepts; room = omega (arith, exact) }
 
-          pub call-read : {k : List ℕ} {v : Position} → k ≡ listAfter f d s l → v ≡ positionOf u → callWith n v k ≡ stringUnpack f d p b
+          pub call-read : {k : List ℕ} {v : Position} → k ≡ listAfter t f d s l → v ≡ positionOf u → callWith n v k ≡ stringUnpack f d p b
           call-read {k} q i =
-              let x : k ≡ listInto b (accepted (r .next, r .values)) = q ∙ ap (listAfter f d s) kept ∙ ap (listInto b) (r .accepts) in
+              let x : k ≡ listInto b (accepted (r .next, r .values)) = q ∙ ap (listAfter t f d s) kept ∙ ap (listInto b) (r .accepts) in
               same-call exact (i ∙ ap positionOf (r .ends)) x
               ∙ sym (into-fits b _ (listOf (r .values)) (omega (arith, exact, ap length kept)))
               ∙ ap called (sym (r .accepts))

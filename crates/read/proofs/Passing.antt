@@ -8,11 +8,13 @@ use mathlib.Core.Option.{none, some}
 use lib.ListN.{length, take, drop, length-append, length-drop}
 use lib.Seq.{paste, take-at, take-all, drop-drop, drop-append-add}
 use Rattle.definition.specs.Answers.{Checked, refused, accepted}
-use Rattle.definition.specs.Items.{items}
+use Rattle.definition.specs.Options.{Table}
+use Rattle.definition.specs.Ops.{ops}
 use Rattle.definition.specs.Values.{Value}
 use Rattle.definition.specs.Lists.{listOf}
 use Rattle.definition.specs.Writing.{Place}
-use Rattle.definition.specs.Reading.{offsetIn, atOffset, readItem, reading}
+use Rattle.definition.specs.Reading.{offsetIn, atOffset}
+use Rattle.definition.proofs.Traces.{readValue, readingValues}
 use Rattle.definition.specs.declared.State.{State}
 use Rattle.definition.specs.declared.Offset.{Offset}
 use Rattle.definition.specs.declared.Op.{Op}
@@ -40,10 +42,10 @@ paste-behind x v b n k =
     rw (t, r, take-all n v (omega arith), e)
 
 -- what was read so far is at most what is read in all
-within : {f d : List ℕ} {w : Checked (Place ℕ × List Value)} {at : ℕ} {s : State} {vs : List Value} → SoFar f d w at s vs
+within : {t : Table} {f d : List ℕ} {w : Checked (Place ℕ × List Value)} {at : ℕ} {s : State} {vs : List Value} → SoFar t f d w at s vs
     → {p : Place ℕ} {all : List Value} → w ≡ accepted (p, all) → length (listOf vs) ≤ length (listOf all)
-within {f} {d} {w} {at} {s} {vs} h {p} {all} e =
-    let a = after-accepted readItem [] _++_ vs (reading (placeIn d s) (items (drop at f))) (p, all) (sym (h .whole) ∙ e) in
+within {t} {f} {d} {w} {at} {s} {vs} h {p} {all} e =
+    let a = after-accepted readValue [] _++_ vs (readingValues (placeIn d s) (ops t (drop at f))) (p, all) (sym (h .walk .whole) ∙ e) in
     let q : vs ++ a .0 .1 ≡ all = ap (λ (r : Place ℕ × List Value). r .1) (a .2) in
     omega (arith, ap (λ (l : List Value). length (listOf l)) q, list-append vs (a .0 .1))
 
@@ -52,24 +54,24 @@ abbrev holding : Bool → List ℕ → List Value → List ℕ
 holding put b vs = cond put (fronted (listOf vs) b) b
 
 -- from the state s₀ on, the values `done` were read. Their list has the length `total`, and l is the buffer b with it.
-pub record Passing (f d : List ℕ) (s₀ : State) (b : List ℕ) (put : Bool) (at : ℕ) (s : State) (l : List ℕ) (total : ℕ) : Type 0 where
+pub record Passing (t : Table) (f d : List ℕ) (s₀ : State) (b : List ℕ) (put : Bool) (at : ℕ) (s : State) (l : List ℕ) (total : ℕ) : Type 0 where
   pub done : List Value
-  pub so-far : SoFar f d (readAt f d s₀) at s done
+  pub so-far : SoFar t f d (readAt t f d s₀) at s done
   pub counted : SameTo63 total (length (listOf done))
   pub holds : l ≡ holding put b done
 
-pub passing-none : {f d : List ℕ} {s : State} {b : List ℕ} {at : ℕ} (put : Bool) → at ≡ 0 → Stands d s → Passing f d s b put at s b 0
+pub passing-none : {t : Table} {f d : List ℕ} {s : State} {b : List ℕ} {at : ℕ} (put : Bool) → at ≡ 0 → Stands d s → Passing t f d s b put at s b 0
 unfolding listOf
-passing-none {f} {d} {s} {b} {at} put e h = record { done = []; so-far = from-start f d s at e h; counted = rw no-values; holds = same put }
+passing-none {t} {f} {d} {s} {b} {at} put e h = record { done = []; so-far = from-start t f d s at e h; counted = rw no-values; holds = same put }
   where
-    same : (t : Bool) → b ≡ holding t b []
+    same : (x : Bool) → b ≡ holding x b []
     same true = refl
     same false = refl
 
-module _ {f d : List ℕ} {s₀ : State} {b : List ℕ} {put : Bool} {at : ℕ} {s : State} {l : List ℕ} {total : ℕ}
-    (h : Passing f d s₀ b put at s l total) (fits : put ≡ true → Fits f d s₀ b) where
+module _ {t : Table} {f d : List ℕ} {s₀ : State} {b : List ℕ} {put : Bool} {at : ℕ} {s : State} {l : List ℕ} {total : ℕ}
+    (h : Passing t f d s₀ b put at s l total) (fits : put ≡ true → Fits t f d s₀ b) where
   abbrev answer : List ℕ
-  answer = cond put (listAfter f d s₀ b) b
+  answer = cond put (listAfter t f d s₀ b) b
 
   -- the list of what was read so far
   abbrev sofar : List ℕ
@@ -78,16 +80,16 @@ module _ {f d : List ℕ} {s₀ : State} {b : List ℕ} {put : Bool} {at : ℕ} 
   pub passing-length : length l ≡ length b
   passing-length = go put refl (h .holds)
     where
-      go : (t : Bool) → put ≡ t → l ≡ holding t b (h .done) → length l ≡ length b
+      go : (x : Bool) → put ≡ x → l ≡ holding x b (h .done) → length l ≡ length b
       go true e q =
           let a = fits e in
           omega (arith, ap length q, length-append sofar (drop (length sofar) b), length-drop (length sofar) b, within (h .so-far) (a .accepts), a .room)
       go false e q = ap length q
 
-  pub passing-end : {o : Offset} → o ≡ offsetIn s → nextAt at (drop at f) ≡ accepted none → Reads d (readAt f d s₀) total o × (l ≡ answer)
+  pub passing-end : {o : Offset} → o ≡ offsetIn s → nextAt t at (drop at f) ≡ accepted none → Reads d (readAt t f d s₀) total o × (l ≡ answer)
   passing-end {o} i q =
       let e = run-end (h .so-far) q in
-      let r : Reads d (readAt f d s₀) total (offsetIn s) = record {
+      let r : Reads d (readAt t f d s₀) total (offsetIn s) = record {
         next = placeIn d s;
         values = h .done;
         accepts = e;
@@ -98,24 +100,24 @@ module _ {f d : List ℕ} {s₀ : State} {b : List ℕ} {put : Bool} {at : ℕ} 
       (rw i r, h .holds ∙ ap (λ (x : List ℕ). cond put x b) (sym (ap (listInto b) e)))
 
   -- with `put`, nothing is refused
-  refused-list : {k : ℕ} → readAt f d s₀ ≡ refused k → (readAt f d s₀ ≡ refused k) × (l ≡ answer)
+  refused-list : {k : ℕ} → readAt t f d s₀ ≡ refused k → (readAt t f d s₀ ≡ refused k) × (l ≡ answer)
   refused-list e = (e, go put refl (h .holds))
     where
-      go : (t : Bool) → put ≡ t → l ≡ holding t b (h .done) → l ≡ cond t (listAfter f d s₀ b) b
+      go : (x : Bool) → put ≡ x → l ≡ holding x b (h .done) → l ≡ cond x (listAfter t f d s₀ b) b
       go true i q = absurd (never (sym e ∙ fits i .accepts))
       go false i q = q
 
-  pub passing-refusal : {k : ℕ} → nextAt at (drop at f) ≡ refused k → (readAt f d s₀ ≡ refused k) × (l ≡ answer)
+  pub passing-refusal : {k : ℕ} → nextAt t at (drop at f) ≡ refused k → (readAt t f d s₀ ≡ refused k) × (l ≡ answer)
   passing-refusal q = refused-list (run-refusal (h .so-far) q)
 
-  module _ {o : Op} {p : ℕ} (q : nextAt at (drop at f) ≡ accepted (some (o, p))) {r : Fetched} (g : Fetches d s o r) where
-    pub passing-refused : {k : ℕ} → r ≡ Fetched.Refused k → (readAt f d s₀ ≡ refused k) × (l ≡ answer)
+  module _ {o : Op} {p : ℕ} (q : nextAt t at (drop at f) ≡ accepted (some (o, p))) {r : Fetched} (g : Fetches d s o r) where
+    pub passing-refused : {k : ℕ} → r ≡ Fetched.Refused k → (readAt t f d s₀ ≡ refused k) × (l ≡ answer)
     passing-refused e = refused-list (item-refused (h .so-far) q g e)
 
-    pub passing-set : {t u : State} → r ≡ Fetched.Set t → u ≡ t → Passing f d s₀ b put p u l total
+    pub passing-set : {x u : State} → r ≡ Fetched.Set x → u ≡ x → Passing t f d s₀ b put p u l total
     passing-set e i = rw i (record { done = h .done; so-far = item-set (h .so-far) q g e; counted = h .counted; holds = h .holds })
 
-    module _ {v : Reading} {t : Offset} (e : r ≡ Fetched.Read v t) where
+    module _ {v : Reading} {o′ : Offset} (e : r ≡ Fetched.Read v o′) where
       abbrev one : List ℕ
       one = listOf (valueOf d v ∷ [])
 
@@ -125,7 +127,7 @@ module _ {f d : List ℕ} {s₀ : State} {b : List ℕ} {put : Bool} {at : ℕ} 
       inside : Inside d v
       inside = subst (FetchedStands d) e (g .stands) .1
 
-      next : SoFar f d (readAt f d s₀) p (atOffset s t) more
+      next : SoFar t f d (readAt t f d s₀) p (atOffset s o′) more
       next = item-read (h .so-far) q g e
 
       pub passing-short : Short v
@@ -143,20 +145,20 @@ module _ {f d : List ℕ} {s₀ : State} {b : List ℕ} {put : Bool} {at : ℕ} 
 
         pub passing-put : (k : List ℕ) → k ≡ paste l total one (sizeOf v) → k ≡ holding put b more
         passing-put k c =
-            let x : l ≡ fronted sofar b = h .holds ∙ ap (λ (t : Bool). holding t b (h .done)) i in
+            let x : l ≡ fronted sofar b = h .holds ∙ ap (λ (x : Bool). holding x b (h .done)) i in
             c
             ∙ ap (λ (j : ℕ). paste l j one (sizeOf v)) exact
             ∙ ap (λ (y : List ℕ). paste y (length sofar) one (sizeOf v)) x
             ∙ paste-behind sofar one b (sizeOf v) (size-is d v inside)
             ∙ ap (λ (y : List ℕ). fronted y b) (sym (list-parts (h .done) (valueOf d v ∷ [])))
-            ∙ sym (ap (λ (t : Bool). holding t b more) i)
+            ∙ sym (ap (λ (x : Bool). holding x b more) i)
 
       pub passing-kept : put ≡ false → l ≡ holding put b more
-      passing-kept i = h .holds ∙ ap (λ (t : Bool). holding t b (h .done)) i ∙ sym (ap (λ (t : Bool). holding t b more) i)
+      passing-kept i = h .holds ∙ ap (λ (x : Bool). holding x b (h .done)) i ∙ sym (ap (λ (x : Bool). holding x b more) i)
 
       -- a field of c bytes more makes the total m
       pub passing-more : {k : List ℕ} {c m : ℕ} {u : State} → k ≡ holding put b more → c ≡ sizeOf v → ((j : ℕ) → SameTo63 total j → SameTo63 m (j + c))
-          → u ≡ atOffset s t → Passing f d s₀ b put p u k m
+          → u ≡ atOffset s o′ → Passing t f d s₀ b put p u k m
       passing-more {c = c} y z add i =
           let j : length sofar + c ≡ length (listOf more) = omega (arith, list-append (h .done) (valueOf d v ∷ []), size-is d v inside, z) in
           rw i (record { done = more; so-far = next; counted = rw (← j) (add (length sofar) (h .counted)); holds = y })

@@ -4,11 +4,13 @@ use mathlib.Core.Path.{_≡_}
 use mathlib.Core.List.{List, _++_}
 use lib.ListN.{length, drop}
 use Rattle.definition.specs.Answers.{Checked, refused, accepted}
-use Rattle.definition.specs.Items.{items}
+use Rattle.definition.specs.Options.{Table}
+use Rattle.definition.specs.Ops.{ops}
 use Rattle.definition.specs.Values.{Value}
 use Rattle.definition.specs.Lists.{listOf}
 use Rattle.definition.specs.Writing.{Place}
-use Rattle.definition.specs.Reading.{offsetIn, reading}
+use Rattle.definition.specs.Reading.{offsetIn}
+use Rattle.definition.proofs.Traces.{readingValues}
 use Rattle.definition.specs.declared.State.{State}
 use Rattle.definition.specs.declared.Offset.{Offset}
 use Rattle.fetch.specs.Readings.{Within, placeIn}
@@ -17,9 +19,9 @@ use Rattle.fetch.specs.declared.decode.Reading.the-variants.{Integer, Float, Te
 use Rattle.read.specs.declared.pass.Total.{Total}
 use Rattle.read.specs.declared.pass.Total.the-variants.{Refused, Of}
 
--- what reading the format f in the data d from a state gives
-abbrev pub readAt : List ℕ → List ℕ → State → Checked (Place ℕ × List Value)
-readAt f d s = reading (placeIn d s) (items f)
+-- what reading the format f, by the table t, in the data d from a state gives
+abbrev pub readAt : Table → List ℕ → List ℕ → State → Checked (Place ℕ × List Value)
+readAt t f d s = readingValues (placeIn d s) (ops t f)
 
 -- ---- lengths
 
@@ -54,16 +56,16 @@ abbrev pub Totals : List ℕ → Checked (Place ℕ × List Value) → Total →
 Totals d w (Refused k) = w ≡ refused k
 Totals d w (Of n o) = Reads d w n o
 
-abbrev pub Checks : List ℕ → List ℕ → State → Total → Type 0
-Checks f d s r = Totals d (readAt f d s) r
+abbrev pub Checks : Table → List ℕ → List ℕ → State → Total → Type 0
+Checks t f d s r = Totals d (readAt t f d s) r
 
 -- ---- the second pass
 
 -- reading gives values whose list is at most as long as b
-pub record Fits (f d : List ℕ) (s : State) (b : List ℕ) : Type 0 where
+pub record Fits (t : Table) (f d : List ℕ) (s : State) (b : List ℕ) : Type 0 where
   pub next : Place ℕ
   pub values : List Value
-  pub accepts : readAt f d s ≡ accepted (next, values)
+  pub accepts : readAt t f d s ≡ accepted (next, values)
   pub room : length (listOf values) ≤ length b
 
 -- b with the list of the values that were read at its front
@@ -71,5 +73,5 @@ abbrev pub listInto : List ℕ → Checked (Place ℕ × List Value) → List �
 listInto b (refused k) = b
 listInto b (accepted r) = listOf (r .1) ++ drop (length (listOf (r .1))) b
 
-abbrev pub listAfter : List ℕ → List ℕ → State → List ℕ → List ℕ
-listAfter f d s b = listInto b (readAt f d s)
+abbrev pub listAfter : Table → List ℕ → List ℕ → State → List ℕ → List ℕ
+listAfter t f d s b = listInto b (readAt t f d s)

@@ -19,8 +19,9 @@ ghost use Prim.Native.Nat.{ℕ, _+_, _≤_};
 ghost use lib.ListN.{length};
 ghost use lib.Seq.{paste};
 ghost use Rattle.definition.specs.Lists.{listOf};
+ghost use Rattle.definition.proofs.Ops.{Sizes};
 ghost use Rattle.fetch.specs.Readings.{valueOf, Inside, Stands};
-ghost use Rattle.format.specs.Packed.{packed};
+ghost use Rattle.format.specs.Packed.{tableAt};
 ghost use Rattle.read.specs.Runs.{sizeOf, Short, SameTo63, Checks, Fits, listAfter};
 
 // The number of a refusal, or the length of the value list and the offset after the last byte read. A length above 2^63-1
@@ -75,9 +76,9 @@ pub fn pass(
     list: &mut [u8],
     put: bool,
 ) -> Total
-    requires { ⌜ now table ≡ packed ⌝ ∗ ⌜ Stands (now «data») start ⌝ ∗ ⌜ (put ≡ true → Fits (now format) (now «data») start (now list)) ⌝ }
-    ensures total { λ r. ⌜ Checks (now (format .entry)) (now («data» .entry)) start r ⌝ }
-    ensures list { λ r. ⌜ now (list .exit) ≡ cond put (listAfter (now (format .entry)) (now («data» .entry)) start (now (list .entry))) (now (list .entry)) ⌝ }
+    requires { ⌜ Sizes (tableAt (now table)) ⌝ ∗ ⌜ Stands (now «data») start ⌝ ∗ ⌜ (put ≡ true → Fits (tableAt (now table)) (now format) (now «data») start (now list)) ⌝ }
+    ensures total { λ r. ⌜ Checks (tableAt (now (table .entry))) (now (format .entry)) (now («data» .entry)) start r ⌝ }
+    ensures list { λ r. ⌜ now (list .exit) ≡ cond put (listAfter (tableAt (now (table .entry))) (now (format .entry)) (now («data» .entry)) start (now (list .entry))) (now (list .entry)) ⌝ }
 {
     let mut c = Cursor::new();
     let mut s = start;

@@ -1,18 +1,21 @@
 -- `string_unpack` meets its contract: 16, then the first pass's refusal, then 22, else the list that the second pass puts.
 use Prim.Native.Nat.{ℕ, _^_, _<_}
 use native.Mathlib.Omega.{arith}
-use mathlib.Core.Path.{_≡_, sym, ap, _∙_, subst}
+use mathlib.Core.Path.{_≡_, refl, sym, ap, _∙_, subst}
 use mathlib.Core.List.{List}
 use lib.IntN.{ℤ}
 use lib.ListN.{length}
 use mir.Facts.{toZ-ofZ}
 use Rattle.definition.specs.Answers.{Checked, accepted}
+use Rattle.definition.specs.Options.{Table, options}
 use Rattle.definition.specs.Values.{Value}
 use Rattle.definition.specs.States.{start}
 use Rattle.definition.specs.Writing.{Place}
 use Rattle.definition.specs.Reading.{offsetOf, atOffset}
 use Rattle.definition.specs.declared.State.{State}
 use Rattle.definition.proofs.Answers.{true-not-false}
+use Rattle.definition.proofs.Ops.{Sizes, options-sizes}
+use Rattle.format.specs.Packed.{tableAt}
 use Rattle.position.specs.Starts.{startedOf}
 use Rattle.fetch.specs.Readings.{Stands}
 use Rattle.read.specs.Runs.{readAt, Totals, Reads}
@@ -54,16 +57,23 @@ stands a =
     let s = entry a in
     subst (Stands (s .args .«data» .now)) (sym (placed a)) (offset-inside (s .args .start) (length (s .args .«data» .now)) (found a))
 
+-- the table that is lent, which is the option table
+abbrev lent : tie.After-table → Table
+lent t = tableAt (t .table .result)
+
+sizes : (t : tie.After-table) → Sizes (lent t)
+sizes t = subst Sizes (sym (t .table .ensures)) options-sizes
+
 -- what reading gives there
-abbrev reading : (a : tie.After-at-offset) → Checked (Place ℕ × List Value)
-reading a = readAt (entry a .args .format .now) (entry a .args .«data» .now) (a .at-offset .result)
+abbrev reading : (t : tie.After-table) → Checked (Place ℕ × List Value)
+reading t = let a = t .before in readAt (lent t) (entry a .args .format .now) (entry a .args .«data» .now) (a .at-offset .result)
 
 -- what the first pass gives
-reads : (x : tie.After-known-told3) → let a = opened x in
-    Reads (entry a .args .«data» .now) (reading a) (x .before .length .given .0 .0) (x .before .length .given .0 .1 .0)
-reads x =
-    let a = opened x in
-    subst (Totals (entry a .args .«data» .now) (reading a)) (x .before .length .given .1) (x .before .before .before .before .before .pass .ensures .0)
+abbrev tabled : tie.After-known-told3 → tie.After-table
+tabled x = x .before .before .before .before .before .before .before .before
+
+reads : (x : tie.After-known-told3) → Reads (entry (opened x) .args .«data» .now) (reading (tabled x)) (x .before .length .given .0 .0) (x .before .length .given .0 .1 .0)
+reads x = subst (Totals (entry (opened x) .args .«data» .now) (reading (tabled x))) (x .before .length .given .1) (x .before .before .before .before .before .pass .ensures .0)
 
 offset-of-requires : tie.Need-offset-of-requires
 offset-of-requires c κs = search needs
@@ -77,7 +87,7 @@ enum-told c = search needs
 returns : tie.Need-returns
 returns c =
     let s = c .before .before .before .before .before .before in
-    call-outside _ _ (s .args .start) _ (data-short s) (sym (ap startedOf (c .enum-told .given .1)) ∙ started (c .before .before))
+    call-outside options refl _ _ (s .args .start) _ (data-short s) (sym (ap startedOf (c .enum-told .given .1)) ∙ started (c .before .before))
 
 start-requires : tie.Need-start-requires
 start-requires c κs = search needs
@@ -89,7 +99,7 @@ table-requires : tie.Need-table-requires
 table-requires c κs = search needs
 
 pass-requires : tie.Need-pass-requires
-pass-requires c κs = (c .before .before .table .ensures, (stands (c .before .before .before), λ e. absurd (true-not-false (sym e))))
+pass-requires c κs = (sizes (c .before .before), (stands (c .before .before .before), λ e. absurd (true-not-false (sym e))))
 
 enum-known-k : tie.Need-enum-known-k
 enum-known-k c = search needs
@@ -105,7 +115,7 @@ returns-2 c =
     let x = c .before in
     let a = opened x in
     let s = entry a in
-    call-long _ _ (s .args .start) _ (data-short s) (found a) (placed a)
+    call-long (lent (tabled x)) (tabled x .table .ensures) _ _ (s .args .start) _ (data-short s) (found a) (placed a)
     (x .before .before .before .before .before .pass .ensures .1)
     (reads x) (list-short s) (c .if1 .taken)
 
@@ -114,10 +124,10 @@ pass-requires-2 c κs =
     let x = c .before .before .before in
     let a = opened x in
     let s = entry a in
-    let fits = call-fits _ _ (s .args .start) (s .args .list .now) (data-short s) (found a) (placed a)
+    let fits = call-fits (lent (tabled x)) (tabled x .table .ensures) _ _ (s .args .start) (s .args .list .now) (data-short s) (found a) (placed a)
     (x .before .before .before .before .before .pass .ensures .1)
     (reads x) (list-short s) (c .before .before .if1 .left) in
-    (x .before .before .before .before .before .before .before .before .table .ensures, (stands a, λ e. fits))
+    (sizes (tabled x), (stands a, λ e. fits))
 
 position-of-requires : tie.Need-position-of-requires
 position-of-requires c κs =
@@ -132,9 +142,10 @@ returns-3 c =
     let a = c .before .before .before .before .before .before .before .before .before in
     let s = entry a in
     let p = c .before .before .before .before .before in
-    call-refused _ _ (s .args .start) _ (data-short s) (found a) (placed a)
+    let t = p .before .before .before in
+    call-refused (lent t) (t .table .ensures) _ _ (s .args .start) _ (data-short s) (found a) (placed a)
     (p .pass .ensures .1)
-    (subst (Totals (s .args .«data» .now) (reading a)) (c .before .k .given .1) (p .pass .ensures .0))
+    (subst (Totals (s .args .«data» .now) (reading t)) (c .before .k .given .1) (p .pass .ensures .0))
 
 same-length-3 : tie.Need-same-length-3
 same-length-3 c = search needs
@@ -144,7 +155,7 @@ returns-4 c =
     let x = c .before .before .before .before .before .before .before in
     let a = opened x in
     let s = entry a in
-    call-read _ _ (s .args .start) _ (data-short s) (found a) (placed a)
+    call-read (lent (tabled x)) (tabled x .table .ensures) _ _ (s .args .start) _ (data-short s) (found a) (placed a)
     (x .before .before .before .before .before .pass .ensures .1)
     (reads x) (list-short s) (c .before .before .before .before .before .before .if1 .left)
     (c .before .before .before .pass2 .ensures .1)

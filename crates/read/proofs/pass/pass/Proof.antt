@@ -9,13 +9,14 @@ use lib.ListN.{length, drop}
 use Rattle.definition.specs.Answers.{accepted}
 use Rattle.definition.specs.declared.Op.{Op}
 use Rattle.format.specs.Steps.{nextAt, nextOf}
-use Rattle.read.proofs.Runs.{valid, ahead}
+use Rattle.format.specs.Packed.{tableAt}
+use Rattle.format.proofs.Walking.{valid, ahead}
 use Rattle.read.proofs.Passing.{Passing, passing-none, passing-length, passing-end, passing-refusal, passing-refused, passing-set, passing-short, passing-room, passing-put, passing-kept, passing-more}
 use Rattle.read.proofs.pass.pass.Statement.{statement}
 use Rattle.read.proofs.pass.pass.Tie as tie
 
 abbrev Inv-loop : tie.InvT-loop
-Inv-loop table format «data» list₀ put c₀ s₀ total₀ list c s total = Passing format «data» s₀ list₀ put (c .at) s list total
+Inv-loop table format «data» list₀ put c₀ s₀ total₀ list c s total = Passing (tableAt table) format «data» s₀ list₀ put (c .at) s list total
 
 abbrev μ-loop : tie.MeasureT-loop
 μ-loop table format «data» list₀ put c₀ s₀ total₀ list c s total = length format - c .at
@@ -32,7 +33,7 @@ entry l = l .before .before .before .before .before
 
 -- the item that the cursor read
 item : (c : tie.After-op Inv-loop μ-loop) → let l = looped c in
-    nextAt (l .loop .c .at) (drop (l .loop .c .at) (entry l .args .format .now))
+    nextAt (tableAt (entry l .args .table .now)) (l .loop .c .at) (drop (l .loop .c .at) (entry l .args .format .now))
     ≡ accepted (some (c .op .result, c .before .before .i .given .0 .1 .0 .at))
 item c =
     let x = c .before .before in
@@ -84,7 +85,7 @@ op-requires c κs = tt
 read-op-requires : tie.Need-read-op-requires Inv-loop μ-loop
 read-op-requires c κs =
     let l = looped c in
-    (l .loop .inv .so-far .stands, valid (entry l .args .format .now) (l .loop .c .at) (item c))
+    (l .loop .inv .so-far .stands, valid (tableAt (entry l .args .table .now)) (entry l .args .format .now) (l .loop .c .at) (item c) (entry l .pre .0))
 
 enum-known-k-2 : tie.Need-enum-known-k-2 Inv-loop μ-loop
 enum-known-k-2 c = c .match2 .keys1
@@ -111,7 +112,7 @@ loop-less : tie.Need-loop-less Inv-loop μ-loop
 loop-less c =
     let o = c .before .before .before .before .before in
     let l = looped o in
-    let h = ahead (entry l .args .format .now) (l .loop .c .at) (item o) in
+    let h = ahead (tableAt (entry l .args .table .now)) (entry l .args .format .now) (l .loop .c .at) (item o) in
     omega arith
 
 loop-again : tie.Need-loop-again Inv-loop μ-loop
@@ -150,7 +151,7 @@ loop-less-2 : tie.Need-loop-less-2 Inv-loop μ-loop
 loop-less-2 c =
     let o = c .before .before .before .before .before .before .before .before in
     let l = looped o in
-    let h = ahead (entry l .args .format .now) (l .loop .c .at) (item o) in
+    let h = ahead (tableAt (entry l .args .table .now)) (entry l .args .format .now) (l .loop .c .at) (item o) in
     omega arith
 
 loop-again-2 : tie.Need-loop-again-2 Inv-loop μ-loop
