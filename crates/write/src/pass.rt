@@ -100,17 +100,7 @@ fn advance(list: &[u8], p: Progress, op: Op, out: &mut [u8], w: usize, put: bool
             Step::To(past_value(p, n + size, next))
         }
         Plan::Text(size, start, n, zeros, next) => {
-            emit_text(
-                put,
-                out,
-                w,
-                s.big,
-                list,
-                size as usize,
-                start,
-                n,
-                zeros as usize,
-            );
+            emit_text(put, out, w, s.big, list, size as usize, start, n, zeros as usize);
             Step::To(past_value(p, size + n as u64 + zeros, next))
         }
     }

@@ -15,6 +15,7 @@ use borrow.Author.Needs.{needs}
 use Rattle.write.proofs.pass.pass.Statement.{statement}
 use Rattle.write.proofs.pass.pass.Tie as tie
 
+
 abbrev Inv-loop : tie.InvT-loop
 Inv-loop table format list out₀ put base c₀ p₀ out c p = Walked format list (p₀ .state) put out₀ (c .at) p out × (length out ≡ length out₀)
 
