@@ -1,4 +1,5 @@
 // The state: what a setting makes of it, the zeros before an item, and the state after it.
+use definition::Field;
 use definition::Setting;
 use definition::State;
 ghost use mathlib.Core.Path.{_≡_};
@@ -25,21 +26,55 @@ pub enum Next {
 // The greatest length.
 pub const MAX_LENGTH: u64 = 0x7fff_ffff_ffff_ffff;
 
+// The state with a byte order (true: big), a limit and a length.
+pub fn state(big: bool, limit: u64, length: u64) -> State
+    ensures { λ r. ⌜ r ≡ states.state big limit length ⌝ }
+{
+    State { big, limit, length }
+}
+
+// The start state.
+pub fn start() -> State
+    ensures { λ r. ⌜ r ≡ states.start ⌝ }
+{
+    state(false, 1, 0)
+}
+
+// The same state, made anew of its parts. A loop that takes its next state from an enum takes it so: the parts then stay in
+// registers from item to item, where a copy of the whole would go through memory.
+pub fn parts(s: State) -> State
+    ensures { λ r. ⌜ r ≡ s ⌝ }
+{
+    state(s.big, s.limit, s.length)
+}
+
 // The state after a setting.
 pub fn set(s: State, x: Setting) -> State
     ensures { λ r. ⌜ r ≡ states.set x s ⌝ }
 {
     match x {
-        Setting::Order(big) => State {
-            big,
-            limit: s.limit,
-            length: s.length,
-        },
-        Setting::Limit(limit) => State {
-            big: s.big,
-            limit,
-            length: s.length,
-        },
+        Setting::Order(big) => state(big, s.limit, s.length),
+        Setting::Limit(limit) => state(s.big, limit, s.length),
+    }
+}
+
+// The state n bytes on.
+pub fn further(s: State, n: u64) -> State
+    requires { ⌜ s .length + n ≤ 2 ^ 63 - 1 ⌝ }
+    ensures { λ r. ⌜ r ≡ states.further s n ⌝ }
+{
+    state(s.big, s.limit, s.length + n)
+}
+
+// The natural alignment of a field.
+pub fn natural(f: Field) -> u64
+    ensures { λ r. ⌜ r ≡ states.natural f ⌝ }
+{
+    match f {
+        Field::Number(_, n) => n,
+        Field::Chars(_) => 1,
+        Field::ZeroEnded => 1,
+        Field::Counted(_) => 1,
     }
 }
 
@@ -98,18 +133,13 @@ pub fn padding(s: State, natural: u64) -> Amount
 pub fn longer(s: State, n: u64) -> Next
     ensures { λ r. ⌜ stateOf r ≡ states.longer s n ⌝ }
 {
-    let length = s.length;
     if MAX_LENGTH < n {
         return Next::Refused(9);
     }
-    if MAX_LENGTH - n < length {
+    if MAX_LENGTH - n < s.length {
         return Next::Refused(9);
     }
-    Next::State(State {
-        big: s.big,
-        limit: s.limit,
-        length: length + n,
-    })
+    Next::State(further(s, n))
 }
 
 // Whether n bytes more leave the length at most 2^63-1.

@@ -204,7 +204,7 @@ low-measure-item s i = low-bind (opOf i) _ (low-op i) (λ o. low-bind (measureOp
 
 pub low-measure : (f : List ℕ) → Below 21 (measure f)
 unfolding measure
-low-measure f = low-bind _ _ (low-run measureItem tt silent low-measure-item start (items f)) (λ r. fine)
+low-measure f = low-bind _ _ (low-bind _ _ (low-run measureItem tt silent low-measure-item start (items f)) (λ r. fine)) (λ s. fine)
 
 low-bound-op : (d : ℕ) (s : State) (o : Op) → Below 21 (boundOp d s o)
 unfolding boundOp

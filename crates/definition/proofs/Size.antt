@@ -82,6 +82,6 @@ size-measured f vs u o e = rw (run-size (place start vs) (items f) u o e) (go (h
     l : u .state .length ≡ length (o .cells)
     l = sym (length-written (place start vs) (items f) u o e) ∙ zero-add (length (o .cells))
 
-    go : (x : Bool) → _>>=_ {B = ℕ} (measured x (u .state)) (λ r. accepted (r .0 .length)) ≡ cond x (refused 10) (accepted (length (o .cells)))
+    go : (x : Bool) → _>>=_ {B = ℕ} (_>>=_ {B = State} (measured x (u .state)) (λ r. accepted (r .0))) (λ s. accepted (s .length)) ≡ cond x (refused 10) (accepted (length (o .cells)))
     go true = refl
     go false = ap accepted l

@@ -41,6 +41,10 @@ measureItem s i = do
 abbrev pub measuring : State → List Item → Checked (State × Unit {0})
 measuring s is = run measureItem tt silent s is
 
+-- the state that a format leads to from a state
+abbrev pub measureFrom : State → List ℕ → Checked State
+measureFrom s f = measuring s (items f) >>= λ r. accepted (r .0)
+
 -- the size of a format
 unfoldable pub measure : List ℕ → Checked ℕ
-measure f = measuring start (items f) >>= λ r. accepted (r .0 .length)
+measure f = measureFrom start f >>= λ s. accepted (s .length)

@@ -6,12 +6,13 @@ use mathlib.Core.Option.{Option, none, some}
 use native.Mathlib.Omega.{arith}
 use lib.ListN.{length, drop, length-drop}
 use lib.Seq.{drop-drop}
-use Rattle.definition.specs.Answers.{Checked, refused, accepted, _>>=_}
+use Rattle.definition.specs.Answers.{Checked, refused, accepted, _>>=_, after, run}
 use Rattle.definition.specs.Options.{entryOf}
 use Rattle.definition.specs.Items.{Item, item, items, taken}
 use Rattle.definition.specs.Ops.{opOf}
 use Rattle.definition.specs.declared.Op.{Op}
 use Rattle.definition.proofs.Items.{items-nil, items-cons}
+use Rattle.definition.proofs.Parts.{after-nothing, after-after}
 use Rattle.format.specs.Steps.{nextAt}
 use Rattle.format.proofs.Taken.{taken-length}
 
@@ -92,3 +93,38 @@ module _ (f : List ℕ) (at : ℕ) where
             ahead = omega arith;
             inside = omega arith;
           }
+
+-- ---- a walk over a format, for any step on what an item does, and any output that is joined
+module _ {S O : Type 0} (step : S → Op → Checked (S × O)) (nothing : O) (_⊕_ : O → O → O) where
+  infixl 60 _⊕_
+  -- the step on an item, after the checks that need no state
+  abbrev pub stepItem : S → Item → Checked (S × O)
+  stepItem s i = opOf i >>= step s
+
+  abbrev pub walk : S → List Item → Checked (S × O)
+  walk s is = run stepItem nothing _⊕_ s is
+
+  -- the whole walk w over f has come to a place, with the state s, and has put out o
+  pub record Walked (w : Checked (S × O)) (f : List ℕ) (at : ℕ) (s : S) (o : O) : Type 0 where
+    pub is : w ≡ after stepItem nothing _⊕_ o (walk s (items (drop at f)))
+
+  module _ (left : (o : O) → nothing ⊕ o ≡ o) (right : (o : O) → o ⊕ nothing ≡ o) (assoc : (a b c : O) → (a ⊕ b) ⊕ c ≡ a ⊕ (b ⊕ c)) where
+    pub walk-none : (f : List ℕ) (at : ℕ) (s : S) → at ≡ 0 → Walked (walk s (items f)) f at s nothing
+    walk-none f at s e = record { is = rw e (after-nothing stepItem nothing _⊕_ left assoc (walk s (items f))) }
+
+    module _ {w : Checked (S × O)} {f : List ℕ} {at : ℕ} {s : S} {o : O} (h : Walked w f at s o) where
+      pub walk-end : nextAt at (drop at f) ≡ accepted none → w ≡ accepted (s, o)
+      walk-end q = h .is ∙ rw (at-end f at q) (ap (λ (x : O). accepted (s, x)) (right o))
+
+      pub walk-refusal : {k : ℕ} → nextAt at (drop at f) ≡ refused k → w ≡ refused k
+      walk-refusal {k} q = let x = at-refusal f at k q in h .is ∙ rw (x .are, x .refuses)
+
+      -- the item at the place does op, and the next one stands at the place p
+      module _ {op : Op} {p : ℕ} (q : nextAt at (drop at f) ≡ accepted (some (op, p))) where
+        pub walk-refused : {k : ℕ} → step s op ≡ refused k → w ≡ refused k
+        walk-refused e = let x = at-item f at op p q in h .is ∙ rw (x .are, x .does, e)
+
+        pub walk-on : {t : S} {a : O} → step s op ≡ accepted (t, a) → Walked w f p t (o ⊕ a)
+        walk-on {t} {a} e =
+            let x = at-item f at op p q in
+            record { is = h .is ∙ rw (x .are, x .does, e) (after-after stepItem nothing _⊕_ left assoc o a (walk t (items (drop p f)))) }

@@ -158,8 +158,8 @@ module _ (l : List ℕ) (s : State) (vs : List definition.Value) (f : Field) (p 
     val = x .val;
     rest = x .rest;
     is =
-      ap (λ (ws : List definition.Value). wrote s ws (Op.Put f)) (x .first)
-      ∙ field-put s f p (x .padded) (x .state) (x .early-is) (x .val) (x .rest) bytes (further s size) (x .encoded) (ap (longer s) long ∙ room-longer s size h);
+        ap (λ (ws : List definition.Value). wrote s ws (Op.Put f)) (x .first)
+        ∙ field-put s f p (x .padded) (x .state) (x .early-is) (x .val) (x .rest) bytes (further s size) (x .encoded) (ap (longer s) long ∙ room-longer s size h);
     long = long;
     room = leb-true (s .length + size) (2 ^ 63 - 1) h;
     list = x .list;

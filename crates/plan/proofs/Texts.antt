@@ -65,12 +65,12 @@ module _ (l : List ℕ) (at : ℕ) where
         within = inside .0;
         short = inside .1;
         found = λ vs known.
-          let t = takes-first l at vs known (meaning l v) next (h .says) in
-          record {
-            rest = t .others;
-            is = t .is ∙ ap (λ (x : Value). meaning l x ∷ t .others) e;
-            list = ap (λ (x : ℕ). values (drop x l)) same-next ∙ t .left;
-          };
+            let t = takes-first l at vs known (meaning l v) next (h .says) in
+            record {
+              rest = t .others;
+              is = t .is ∙ ap (λ (x : Value). meaning l x ∷ t .others) e;
+              list = ap (λ (x : ℕ). values (drop x l)) same-next ∙ t .left;
+            };
       }
 
 -- ---- the bytes of a text

@@ -91,12 +91,11 @@ module _ (s : State) (f l b : List ℕ) where
             ∙ paste-front b [] 0 refl (recordOf (m .made)) (length (recordOf (m .made))) refl ∙ ap (λ (k : ℕ). recordOf (m .made) ++ drop k b) (zero-add (length (recordOf (m .made)))) in
             sym (accepted-is m ∙ rw (le-leb (length (recordOf (m .made))) (length b) n) (ap (λ (x : Continued). call (accepted x) (recordOf (m .made) ++ drop (length (recordOf (m .made))) b)) (m .totals) ∙ ap (call (accepted a)) (sym front)))
 
--- ---- plain writing
-pub plain-refused : (f l b d : List ℕ) (r : Total) (k : ℕ) → r ≡ Total.Refused k → continuedIs r d ≡ packContinued start f l b → call (refused k) d ≡ stringPack f l b
-plain-refused f l b d r k e h = ap (λ (c : Call Continued). call (c .answer >>= λ a. accepted (a .written)) (c .buffer)) (sym (ap (λ (x : Total). continuedIs x d) e) ∙ h) ∙ sym (plain-is f l b)
-
-pub plain-length : (f l b d : List ℕ) (r : Total) (c : Continued) → r ≡ Total.Of c → continuedIs r d ≡ packContinued start f l b → call (accepted (c .written)) d ≡ stringPack f l b
-plain-length f l b d r c e h = ap (λ (x : Call Continued). call (x .answer >>= λ a. accepted (a .written)) (x .buffer)) (sym (ap (λ (x : Total). continuedIs x d) e) ∙ h) ∙ sym (plain-is f l b)
+-- ---- plain writing: continued writing from the start state, and the record's length
+pub plain-call : (f l b d : List ℕ) {r q : Total} {s : State} → r ≡ q → s ≡ start → continuedIs r d ≡ packContinued s f l b → call (totalIs q >>= λ a. accepted (a .written)) d ≡ stringPack f l b
+plain-call f l b d e g h =
+    let from = ap (λ (x : State). packContinued x f l b) g in
+    ap (λ (c : Call Continued). call (c .answer >>= λ a. accepted (a .written)) (c .buffer)) (sym (ap (λ (x : Total). continuedIs x d) e) ∙ h ∙ from) ∙ sym (plain-is f l b)
 
 pub total-refused : (s : State) (f l b : List ℕ) (sound : Sound s) (listed : isAccepted (values l) ≡ true) (r : Total) (k : ℕ) → r ≡ Total.Refused k → totalIs r ≡ summed (write s (valuesOf l) f) → continuedIs r b ≡ packContinued s f l b
 total-refused s f l b sound listed r k e h = ap (λ (x : Total). continuedIs x b) e ∙ refused-call s f l b sound listed k (sym (ap totalIs e) ∙ h)

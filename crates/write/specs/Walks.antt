@@ -73,19 +73,3 @@ abbrev pub Stepped : List ℕ → Progress → Op → Step → Type 0
 Stepped l p op (Refused k) = written l p op ≡ refused k
 Stepped l p op Skip = Moved l p op p
 Stepped l p op (To q) = Moved l p op q
-
--- ---- the items so far
-
--- From the state s, writing the format f with the list l has come to the place c of f, and to p: what is written is `out`, and
--- with `put` the buffer, which was d, is b.
-pub record Walked (f l : List ℕ) (s : State) (put : Bool) (d : List ℕ) (c : ℕ) (p : Progress) (b : List ℕ) : Type 0 where
-  pub out : Output
-  pub known : isAccepted (values (drop (p .at) l)) ≡ true
-  pub sound : Sound (p .state)
-  pub run : write s (valuesOf l) f ≡ after writeItem nothing _⊕_ out (writing (place (p .state) (valuesOf (drop (p .at) l))) (items (drop c f)))
-  pub length-is : p .state .length ≡ s .length + length (out .cells)
-  pub used : p .used ≡ length (out .took)
-  pub items-run : p .items ≡ out .items
-  pub few : (p .used ≤ c) × (p .items ≤ c)
-  pub inside : c ≤ length f
-  pub buffer : b ≡ cond put (recordOf out ++ drop (length (out .cells)) d) d

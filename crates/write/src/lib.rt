@@ -5,6 +5,7 @@ pub mod pass;
 use crate::pass::Total;
 use crate::pass::pass;
 use align::is_sound;
+use align::start;
 use definition::State;
 use format::options::OPTIONS;
 use values::is_list;
@@ -44,12 +45,7 @@ pub enum Packed {
 pub fn string_pack(format: &[u8], list: &[u8], out: &mut [u8]) -> Packed
     ensures { λ r. ⌜ packedIs r (now (out .exit)) ≡ stringPack (now (format .entry)) (now (list .entry)) (now (out .entry)) ⌝ }
 {
-    let start = State {
-        big: false,
-        limit: 1,
-        length: 0,
-    };
-    match pack_continued(start, format, list, out) {
+    match pack_continued(start(), format, list, out) {
         Total::Refused(k) => Packed::Refused(k),
         Total::Of(c) => Packed::Length(c.written),
     }

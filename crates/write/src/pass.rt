@@ -2,6 +2,7 @@
 use crate::emit::emit_number;
 use crate::emit::emit_text;
 use crate::emit::emit_zeros;
+use align::further;
 use align::set;
 use definition::Continued;
 use definition::Op;
@@ -16,7 +17,6 @@ ghost use Prim.Native.Nat.{_+_, _-_, _^_, _<_, _≤_};
 ghost use lib.Dec.{T};
 ghost use lib.ListN.{length, drop};
 ghost use Rattle.definition.specs.Lists.{values};
-ghost use Rattle.definition.specs.States as states;
 ghost use Rattle.definition.specs.Writing as writing;
 ghost use Rattle.definition.proofs.Calls.{Sound};
 ghost use Rattle.definition.proofs.Ops.{validOp};
@@ -44,18 +44,6 @@ pub enum Step {
 pub enum Total {
     Refused(u8),
     Of(Continued),
-}
-
-// The state n bytes on.
-fn further(s: State, n: u64) -> State
-    requires { ⌜ s .length + n ≤ 2 ^ 63 - 1 ⌝ }
-    ensures { λ r. ⌜ r ≡ states.further s n ⌝ }
-{
-    State {
-        big: s.big,
-        limit: s.limit,
-        length: s.length + n,
-    }
 }
 
 // Past an item without a value, to a state.
@@ -105,7 +93,17 @@ fn advance(list: &[u8], p: Progress, op: Op, out: &mut [u8], w: usize, put: bool
             Step::To(past_value(p, n + size, next))
         }
         Plan::Text(size, start, n, zeros, next) => {
-            emit_text(put, out, w, s.big, list, size as usize, start, n, zeros as usize);
+            emit_text(
+                put,
+                out,
+                w,
+                s.big,
+                list,
+                size as usize,
+                start,
+                n,
+                zeros as usize,
+            );
             Step::To(past_value(p, size + n as u64 + zeros, next))
         }
     }
