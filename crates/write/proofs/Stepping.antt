@@ -66,7 +66,7 @@ module _ {l : List ℕ} {p : Progress} {op : Op} where
   pub number-put : {n size word next : ℕ} → At l p op (Plan.Number n size word next) → Put l p op n (laid (p .state .big) size word (fillOf word)) (n + size) next
   number-put h = record { wrote = h .says }
 
-  pub text-put : {size start n zeros next : ℕ} → At l p op (Plan.Text size start n zeros next) → Put l p op 0 (textBytes (p .state .big) l size start n zeros) (size + n + zeros) next
+  pub text-put : {n size start len zeros next : ℕ} → At l p op (Plan.Text n size start len zeros next) → Put l p op n (textBytes (p .state .big) l size start len zeros) (n + (size + len + zeros)) next
   text-put h = record { wrote = h .says .0 }
 
   pub moved-skip : At l p op Plan.Skip → Moved l p op p

@@ -92,19 +92,20 @@ fn advance(list: &[u8], p: Progress, op: Op, out: &mut [u8], w: usize, put: bool
             emit_number(put, out, w, n as usize, s.big, size as usize, word);
             Step::To(past_value(p, n + size, next))
         }
-        Plan::Text(size, start, n, zeros, next) => {
+        Plan::Text(n, size, start, length, zeros, next) => {
             emit_text(
                 put,
                 out,
                 w,
+                n as usize,
                 s.big,
                 list,
                 size as usize,
                 start,
-                n,
+                length,
                 zeros as usize,
             );
-            Step::To(past_value(p, size + n as u64 + zeros, next))
+            Step::To(past_value(p, n + (size + length as u64 + zeros), next))
         }
     }
 }

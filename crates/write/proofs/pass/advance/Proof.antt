@@ -66,31 +66,36 @@ past-value-requires c κs =
     let s = x .before .before .before .before .before .before in
     (s .pre .1 .1 .0, (s .pre .1 .1 .1 .0, (as-plan (plan (x .before .before)) (x .n2 .given .1)) .says .room))
 
-enum-known-size : tie.Need-enum-known-size
-enum-known-size c = search needs
+enum-known-n-3 : tie.Need-enum-known-n-3
+enum-known-n-3 c = search needs
 
 emit-text-requires : tie.Need-emit-text-requires
 emit-text-requires c κs =
     let x = c .before .before in
-    let h = as-plan (plan (x .before .before)) (x .size .given .1) in
+    let h = as-plan (plan (x .before .before)) (x .n3 .given .1) in
     let s = x .before .before .before .before .before .before in
     (value-room (text-put h) (s .args .put) _ (s .args .w) (s .pre .1 .1 .1 .1 .1), h .says .1)
 
 add-past-value-2 : tie.Need-add-past-value-2
 add-past-value-2 c =
     let x = c .before .before .before .before .before in
-    omega (arith, (as-plan (plan (x .before .before)) (x .size .given .1)) .says .0 .room)
+    omega (arith, (as-plan (plan (x .before .before)) (x .n3 .given .1)) .says .0 .room)
 
 add-past-value-3 : tie.Need-add-past-value-3
 add-past-value-3 c =
     let x = c .before .before .before .before .before in
-    omega (arith, (as-plan (plan (x .before .before)) (x .size .given .1)) .says .0 .room)
+    omega (arith, (as-plan (plan (x .before .before)) (x .n3 .given .1)) .says .0 .room)
+
+add-past-value-4 : tie.Need-add-past-value-4
+add-past-value-4 c =
+    let x = c .before .before .before .before .before in
+    omega (arith, (as-plan (plan (x .before .before)) (x .n3 .given .1)) .says .0 .room)
 
 past-value-requires-2 : tie.Need-past-value-requires-2
 past-value-requires-2 c κs =
     let x = c .before .before .before .before .before in
     let s = x .before .before .before .before .before .before in
-    (s .pre .1 .1 .0, (s .pre .1 .1 .1 .0, (as-plan (plan (x .before .before)) (x .size .given .1)) .says .0 .room))
+    (s .pre .1 .1 .0, (s .pre .1 .1 .1 .0, (as-plan (plan (x .before .before)) (x .n3 .given .1)) .says .0 .room))
 
 returns : tie.Need-returns
 returns c =
@@ -138,7 +143,7 @@ same-length-3 c = search needs
 returns-6 : tie.Need-returns-6
 returns-6 c =
     let x = c .before .before .before .before .before .before in
-    let v = text-put (as-plan (plan (x .before .before)) (x .size .given .1)) in
+    let v = text-put (as-plan (plan (x .before .before)) (x .n3 .given .1)) in
     let a = x .before .before .before .before .before .before .args in
     (moved-value v (c .past-value2 .ensures), value-bytes-put v (a .put) (a .out .now) (a .w) (c .before .before .before .emit-text .ensures))
 
@@ -160,10 +165,11 @@ advance-spec =
     emit-number-requires
     add-past-value
     past-value-requires
-    enum-known-size
+    enum-known-n-3
     emit-text-requires
     add-past-value-2
     add-past-value-3
+    add-past-value-4
     past-value-requires-2
     returns
     returns-2
