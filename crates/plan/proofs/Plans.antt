@@ -1,22 +1,22 @@
 -- The plan of an item is what writing does: one law for each way through its checks.
-use Prim.Native.Nat.{ℕ, zero, suc, _+_, _-_, _%_, _^_, _≤_, _<_, min}
+use Prim.Native.Nat.{ℕ, _+_, _-_, _^_, _≤_, _<_, min}
 use native.Mathlib.Omega.{arith}
 use mathlib.Core.Path.{_≡_, refl, sym, ap, _∙_, subst}
-use mathlib.Core.Bool.{Bool, true, false, not, _&&_, _||_}
+use mathlib.Core.Bool.{Bool, true, false, not, _&&_}
 use mathlib.Core.List.{List, [], _∷_, _++_, map}
-use lib.Dec.{T, leb, eqb, eqb→eq, leb→le, ltb→lt, lit≤}
+use lib.Dec.{T, leb, eqb→eq, leb→le, ltb→lt}
 use lib.ListN.{length, take, drop}
 use borrow.Author.Tests.{leb-true}
-use Rattle.definition.specs.Answers.{Checked, refused, accepted, _>>=_, _>>_, require, orElse}
-use Rattle.definition.specs.Bytes.{laid, coded}
+use Rattle.definition.specs.Answers.{refused, accepted}
+use Rattle.definition.specs.Bytes.{laid}
 use Rattle.definition.specs.Calls.{atMost63}
 use Rattle.definition.specs.Ops.{isPower}
 use Rattle.definition.specs.Values as definition
-use Rattle.definition.specs.Values.{text, asBytes}
+use Rattle.definition.specs.Values.{text}
 use Rattle.definition.specs.Lists.{values}
-use Rattle.definition.specs.States.{set, further, longer, natural, alignment, fill, padding}
+use Rattle.definition.specs.States.{further, longer, natural, alignment, fill, padding}
 use Rattle.definition.specs.Fields.{word, encode}
-use Rattle.definition.specs.Writing.{byte, pads, output, nothing, place, taking, early, writePad, writeField, writeOp}
+use Rattle.definition.specs.Writing.{byte, pads, output, place, early, writeField, writeOp}
 use Rattle.definition.specs.declared.State.{State}
 use Rattle.definition.specs.declared.Setting.{Setting}
 use Rattle.definition.specs.declared.Kind.{Kind}
@@ -25,24 +25,24 @@ use Rattle.definition.specs.declared.Field.{Field}
 use Rattle.definition.specs.declared.Field.the-variants as Field
 use Rattle.definition.specs.declared.Op.{Op}
 use Rattle.definition.specs.declared.Op.the-variants as Op
-use Rattle.definition.proofs.Answers.{never, same, bound, passed, true-not-false}
+use Rattle.definition.proofs.Answers.{same, bound, passed, true-not-false}
 use Rattle.definition.proofs.Bytes.{length-laid}
 use Rattle.definition.proofs.Calls.{Sound}
 use Rattle.definition.proofs.Fields.{validField}
 use Rattle.definition.proofs.Numbers.{validSize}
 use Rattle.definition.proofs.Ops.{power-cases, validOp}
-use Rattle.definition.proofs.Steps.{Roomy, room-longer}
+use Rattle.definition.proofs.Steps.{room-longer}
 use Rattle.values.specs.Meaning.{meaning, FieldRead}
 use Rattle.values.specs.declared.Field.the-variants as Found
 use Rattle.values.specs.declared.Value.{Value}
 use Rattle.values.proofs.Fields.{takes-none, takes-first}
-use Rattle.plan.specs.Words.{fillOf, wordBytes, Says}
-use Rattle.plan.specs.Texts.{firstText, TextFound, TextAt, TextRead}
+use Rattle.word.specs.Words.{fillOf, Says}
+use Rattle.plan.specs.Texts.{firstText, TextAt, TextRead}
 use Rattle.plan.specs.Plans.{textBytes, wrote, Encoded, Wrote, Padded, ItemPlan, ItemAt, NumberPlan, TextPlan}
 use Rattle.plan.specs.declared.item.Plan.{Plan}
 use Rattle.plan.specs.declared.item.Plan.the-variants as Plan
 use Rattle.plan.specs.declared.text.Text.the-variants as Text
-use Rattle.plan.specs.declared.word.Word.the-variants as Word
+use Rattle.word.specs.declared.Word.the-variants as Word
 use Rattle.plan.proofs.Texts.{text-length, within-to-16, TextField, no-text}
 
 -- ---- padding is below 16
@@ -87,41 +87,41 @@ module _ (s : State) (vs : List definition.Value) (n k : ℕ) where
 
 -- ---- fields
 module _ (s : State) (f : Field) where
-  pub field-unaligned : (vs : List definition.Value) (j : ℕ) → padding s (natural f) ≡ refused j → writeOp (place s vs) (Op.Put f) ≡ refused j
+  pub unaligned : (l : List ℕ) (at : ℕ) {j : ℕ} → padding s (natural f) ≡ refused j → ItemAt l at s (Op.Put f) (Plan.Refused j)
   unfolding writeOp writeField
-  field-unaligned vs j e = rw e
+  unaligned l at e vs known = rw e
 
   module _ (p : ℕ) (e : padding s (natural f) ≡ accepted p) where
-    pub field-early : (vs : List definition.Value) (j : ℕ) → early s f ≡ refused j → writeOp (place s vs) (Op.Put f) ≡ refused j
+    field-early : (vs : List definition.Value) (j : ℕ) → early s f ≡ refused j → writeOp (place s vs) (Op.Put f) ≡ refused j
     unfolding writeOp writeField
     field-early vs j g = rw (e, g)
 
     module _ (u : State) (g : early s f ≡ accepted u) where
-      pub field-none : writeOp (place s []) (Op.Put f) ≡ refused 11
+      field-none : writeOp (place s []) (Op.Put f) ≡ refused 11
       unfolding writeOp writeField
       field-none = rw (e, g)
 
       module _ (v : definition.Value) (vs : List definition.Value) where
-        pub field-refused : (j : ℕ) → encode (s .big) f v ≡ refused j → writeOp (place s (v ∷ vs)) (Op.Put f) ≡ refused j
+        field-refused : (j : ℕ) → encode (s .big) f v ≡ refused j → writeOp (place s (v ∷ vs)) (Op.Put f) ≡ refused j
         unfolding writeOp writeField
         field-refused j h = rw (e, g, h)
 
-        pub field-long : (bs : List ℕ) (j : ℕ) → encode (s .big) f v ≡ accepted bs → longer s (p + length bs) ≡ refused j → writeOp (place s (v ∷ vs)) (Op.Put f) ≡ refused j
+        field-long : (bs : List ℕ) (j : ℕ) → encode (s .big) f v ≡ accepted bs → longer s (p + length bs) ≡ refused j → writeOp (place s (v ∷ vs)) (Op.Put f) ≡ refused j
         unfolding writeOp writeField
         field-long bs j h w = rw (e, g, h, w)
 
-        pub field-put : (bs : List ℕ) (t : State) → encode (s .big) f v ≡ accepted bs → longer s (p + length bs) ≡ accepted t → writeOp (place s (v ∷ vs)) (Op.Put f) ≡ accepted (place t vs, output (pads p ++ map byte bs) ((f, v) ∷ []) 1)
+        field-put : (bs : List ℕ) (t : State) → encode (s .big) f v ≡ accepted bs → longer s (p + length bs) ≡ accepted t → writeOp (place s (v ∷ vs)) (Op.Put f) ≡ accepted (place t vs, output (pads p ++ map byte bs) ((f, v) ∷ []) 1)
         unfolding writeOp writeField
         field-put bs t h w = rw (e, g, h, w)
 
 -- ---- a field that passed all checks but 9
 module _ (l : List ℕ) (s : State) (vs : List definition.Value) (f : Field) (p : ℕ) (bytes : List ℕ) (next size : ℕ) (x : Encoded l s vs f p bytes next) (long : p + length bytes ≡ size) where
-  pub encoded-long : leb (s .length + size) (2 ^ 63 - 1) ≡ false → wrote s vs (Op.Put f) ≡ refused 9
+  encoded-long : leb (s .length + size) (2 ^ 63 - 1) ≡ false → wrote s vs (Op.Put f) ≡ refused 9
   encoded-long h =
       ap (λ (ws : List definition.Value). wrote s ws (Op.Put f)) (x .first)
       ∙ field-long s f p (x .padded) (x .state) (x .early-is) (x .val) (x .rest) bytes 9 (x .encoded) (ap (longer s) long ∙ no-room s size h)
 
-  pub encoded-put : leb (s .length + size) (2 ^ 63 - 1) ≡ true → Wrote l s vs (Op.Put f) p bytes size next
+  encoded-put : leb (s .length + size) (2 ^ 63 - 1) ≡ true → Wrote l s vs (Op.Put f) p bytes size next
   encoded-put h = record {
     field = f;
     val = x .val;
@@ -167,9 +167,6 @@ module _ (s : State) (p : ℕ) (k : Kind) (n : ℕ) (v : Value) (next : ℕ) whe
 
 -- by what stands in the list
 module _ (l : List ℕ) (at : ℕ) (s : State) (k : Kind) (n : ℕ) where
-  pub number-unaligned : (j : ℕ) → padding s n ≡ refused j → ItemAt l at s (Op.Put (Field.Number k n)) (Plan.Refused j)
-  number-unaligned j e vs known = field-unaligned s (Field.Number k n) vs j e
-
   module _ (p : ℕ) (e : padding s n ≡ accepted p) where
     pub number-none : FieldRead l at Found.End → ItemAt l at s (Op.Put (Field.Number k n)) (Plan.Refused 11)
     number-none h vs known = ap (λ (ws : List definition.Value). wrote s ws (Op.Put (Field.Number k n))) (takes-none l at vs known (h .says)) ∙ field-none s (Field.Number k n) p e s refl
@@ -191,9 +188,6 @@ module _ (s : State) (p n start len zeros next : ℕ) where
   text-put h l vs f x within = (encoded-put l s vs f p _ next _ x (text-size l within) h, within)
 
 module _ (l : List ℕ) (at : ℕ) (s : State) (f : Field) (is-text : TextField f) where
-  pub text-unaligned : {j : ℕ} → padding s (natural f) ≡ refused j → ItemAt l at s (Op.Put f) (Plan.Refused j)
-  text-unaligned {j} e vs known = field-unaligned s f vs j e
-
   module _ {p : ℕ} (padded : padding s (natural f) ≡ accepted p) where
     pub text-early : {j : ℕ} → early s f ≡ refused j → ItemAt l at s (Op.Put f) (Plan.Refused j)
     text-early {j} g vs known = field-early s f p padded vs j g

@@ -19,7 +19,7 @@ use Rattle.definition.specs.declared.Op.{Op}
 use Rattle.definition.specs.declared.Op.the-variants as Op
 use Rattle.values.specs.Meaning.{meaning}
 use Rattle.values.specs.declared.Value.{Value}
-use Rattle.plan.specs.Words.{fillOf}
+use Rattle.word.specs.Words.{fillOf}
 use Rattle.plan.specs.declared.item.Plan.{Plan}
 use Rattle.plan.specs.declared.item.Plan.the-variants.{Refused, Skip, Set, Zeros, Number, Text}
 

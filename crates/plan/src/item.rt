@@ -2,8 +2,6 @@
 use crate::text::Text;
 use crate::text::has_zero;
 use crate::text::text_at;
-use crate::word::Word;
-use crate::word::word_of;
 use align::Amount;
 use align::fits;
 use align::natural;
@@ -15,6 +13,8 @@ use definition::Setting;
 use definition::State;
 use values::Value;
 use values::field_at;
+use word::Word;
+use word::word_of;
 ghost use mathlib.Core.Path.{_≡_};
 ghost use mathlib.Core.Bool.{true};
 ghost use mathlib.Core.List.{List};

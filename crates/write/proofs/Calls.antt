@@ -1,13 +1,13 @@
 -- The calls of writing: 21 first of all, the first pass, 22, and the bytes that the second pass puts.
-use Prim.Native.Nat.{ℕ, _+_, _≤_, _<_}
+use Prim.Native.Nat.{ℕ, _≤_, _<_}
 use native.Mathlib.Omega.{arith}
 use mathlib.Core.Path.{_≡_, refl, sym, ap, _∙_, subst}
-use mathlib.Core.Bool.{Bool, true, false, _&&_, not}
+use mathlib.Core.Bool.{true, false, _&&_}
 use mathlib.Core.List.{List, [], _++_}
 use native.Mathlib.Nat.{zero-add}
 use lib.ListN.{length, drop}
 use lib.Seq.{paste}
-use borrow.Author.Tests.{le-leb, lt-leb}
+use borrow.Author.Tests.{lt-leb}
 use Rattle.definition.specs.Answers.{Checked, refused, accepted, _>>=_}
 use Rattle.definition.specs.Ops.{isPower}
 use Rattle.definition.specs.Values.{Value}
@@ -22,11 +22,10 @@ use Rattle.definition.proofs.Calls.{Sound, pack-run, length-record, into-fits}
 use Rattle.definition.proofs.Cutting.{plain-is}
 use Rattle.values.specs.Meaning.{isAccepted}
 use Rattle.values.proofs.Lists.{refused-list}
-use Rattle.write.specs.Answers.{totalIs, continuedIs, packedIs}
+use Rattle.write.specs.Answers.{totalIs, continuedIs}
 use Rattle.write.specs.Walks.{valuesOf, summed, FitsAt, putAt}
 use Rattle.write.specs.declared.pass.Total.{Total}
 use Rattle.write.specs.declared.pass.Total.the-variants as Total
-use Rattle.write.specs.declared.Packed.{Packed}
 use Rattle.write.specs.declared.Packed.the-variants as Packed
 use Rattle.write.proofs.Stepping.{list-known}
 use Rattle.write.proofs.Pasting.{paste-front}

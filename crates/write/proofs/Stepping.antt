@@ -1,6 +1,6 @@
 -- One item: where it takes the pass, and what it puts.
-use Prim.Native.Nat.{ℕ, zero, suc, _+_, _-_, _^_, _≤_, _<_}
-use native.Mathlib.Nat.{add-zero, add-assoc}
+use Prim.Native.Nat.{ℕ, zero, suc, _+_, _≤_}
+use native.Mathlib.Nat.{add-zero}
 use native.Mathlib.Omega.{arith}
 use mathlib.Core.Path.{_≡_, refl, sym, ap, _∙_, subst}
 use mathlib.Core.Bool.{Bool, true, false, cond}
@@ -12,15 +12,14 @@ use Rattle.definition.specs.Bytes.{laid}
 use Rattle.definition.specs.Values.{Value}
 use Rattle.definition.specs.Lists.{values}
 use Rattle.definition.specs.States.{set, further}
-use Rattle.definition.specs.Writing.{Cell, pad, byte, pads, zeroed, Output, output, nothing, Place, place, writeOp}
-use Rattle.definition.specs.Calls.{recordOf}
+use Rattle.definition.specs.Writing.{Cell, pad, byte, pads, zeroed, Output, output, nothing, Place, place}
 use Rattle.definition.specs.declared.State.{State}
 use Rattle.definition.specs.declared.Setting.{Setting}
 use Rattle.definition.specs.declared.Op.{Op}
 use Rattle.definition.proofs.Cells.{map-append}
 use Rattle.values.specs.Meaning.{isAccepted}
-use Rattle.plan.specs.Plans.{textBytes, Wrote, Padded, ItemPlan, ItemAt}
-use Rattle.plan.specs.Words.{fillOf}
+use Rattle.plan.specs.Plans.{textBytes, Wrote, ItemPlan, ItemAt}
+use Rattle.word.specs.Words.{fillOf}
 use Rattle.plan.specs.declared.item.Plan.{Plan}
 use Rattle.plan.specs.declared.item.Plan.the-variants as Plan
 use Rattle.write.specs.Walks.{listed, valuesOf, FitsAt, putAt, passed, taken, written, Moved}

@@ -1,21 +1,20 @@
 -- How far a pass over a format has come, and what it has put.
 use Prim.Native.Nat.{ℕ, _+_, _-_, _≤_}
 use mathlib.Core.Path.{_≡_}
-use mathlib.Core.Bool.{Bool, true, cond}
-use mathlib.Core.List.{List, [], _++_}
+use mathlib.Core.Bool.{true}
+use mathlib.Core.List.{List, []}
 use lib.ListN.{length, drop}
 use lib.Seq.{paste}
-use Rattle.definition.specs.Answers.{Checked, refused, accepted, _>>=_, after}
+use Rattle.definition.specs.Answers.{Checked, refused, accepted, _>>=_}
 use Rattle.definition.specs.Items.{items}
 use Rattle.definition.specs.Values.{Value}
 use Rattle.definition.specs.Lists.{values}
 use Rattle.definition.specs.States.{further}
-use Rattle.definition.specs.Writing.{Output, nothing, _⊕_, Place, place, writeOp, writeItem, writing, write}
+use Rattle.definition.specs.Writing.{Output, Place, place, writeOp}
 use Rattle.definition.specs.Calls.{recordOf, continuedOf}
 use Rattle.definition.specs.declared.Continued.{Continued}
 use Rattle.definition.specs.declared.State.{State}
 use Rattle.definition.specs.declared.Op.{Op}
-use Rattle.definition.proofs.Calls.{Sound}
 use Rattle.values.specs.Meaning.{isAccepted}
 use Rattle.write.specs.declared.pass.Progress.{Progress}
 use Rattle.write.specs.declared.pass.Step.{Step}

@@ -10,7 +10,7 @@ ghost use lib.ListN.{length, replicate};
 ghost use lib.Seq.{paste};
 ghost use Rattle.definition.specs.Bytes.{laid};
 ghost use Rattle.plan.specs.Plans.{textBytes};
-ghost use Rattle.plan.specs.Words.{fillOf};
+ghost use Rattle.word.specs.Words.{fillOf};
 
 // The byte above a word's eight.
 fn fill(word: u64) -> u8

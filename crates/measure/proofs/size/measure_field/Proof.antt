@@ -1,7 +1,5 @@
 -- The size, or 10; then the alignment and as many bytes.
 use mathlib.Core.Path.{sym, ap, _∙_}
-use Rattle.definition.specs.Answers.{_>>=_}
-use Rattle.definition.specs.Measuring.{measurePad}
 use Rattle.align.specs.Amounts.{amountOf}
 use borrow.Author.Needs.{needs}
 use Rattle.measure.proofs.size.measure_field.Statement.{statement}

@@ -1,7 +1,8 @@
 -- 6, what stands in the list, and what is put for it.
 use mathlib.Core.Path.{sym, ap, _∙_}
+use Rattle.definition.specs.declared.Field.the-variants as Field
 use Rattle.align.specs.Amounts.{amountOf}
-use Rattle.plan.proofs.Plans.{padding-lt, number-unaligned, number-none, number-found}
+use Rattle.plan.proofs.Plans.{padding-lt, unaligned, number-none, number-found}
 use borrow.Author.Needs.{needs}
 use Rattle.plan.proofs.item.number.Statement.{statement}
 use Rattle.plan.proofs.item.number.Tie as tie
@@ -34,7 +35,7 @@ returns c =
     let x = c .before in
     let s = x .before .before .before in
     let a = s .args in
-    number-unaligned (a .list .now) (a .at) (a .s) (a .kind) (a .size) _ (sym (s .pre .1 .1 .0) ∙ ap amountOf (x .padded .given .1))
+    unaligned (a .s) (Field.Number (a .kind) (a .size)) (a .list .now) (a .at) (sym (s .pre .1 .1 .0) ∙ ap amountOf (x .padded .given .1))
 
 returns-2 : tie.Need-returns-2
 returns-2 c =
