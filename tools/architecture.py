@@ -45,6 +45,7 @@ BOXES = [
         "hands out one item", "after the other:", "the option table,", "a cursor by value,", "operands", "", "", "", "", ""]),
     ("leaf", 198, 316, 106, 64, "numeral", ["digits, by", "recursion"]),
     ("proved", 356, 236, 130, 68, "plan", ["what writing puts", "for an item"]),
+    ("leaf", 356, 60, 130, 58, "word", ["a number's bits,", "12 and 13; for plan"]),
     ("proved", 356, 326, 130, 68, "fetch", ["what reading takes", "for an item"]),
     ("proved", 526, 146, 130, 68, "measure", ["string_packsize,", "list_bound"]),
     ("proved", 526, 236, 130, 68, "write", ["string_pack,", "pack_continued"]),
@@ -58,10 +59,10 @@ BOXES = [
     ("proved", 696, 60, 110, 58, "line", ["the line printed"]),
     ("proved", 846, 60, 114, 58, "packsize", ["the program"]),
     ("leaf", 186, 452, 118, 104, "align", ["the state, padding;", "for format,", "measure, plan,", "fetch, write, read"]),
-    ("leaf", 318, 452, 118, 104, "values, fields", ["the value list, read", "and written; for", "numbers, plan, write,", "digribbon, read"]),
-    ("leaf", 450, 452, 118, 104, "numbers", ["a value as integer", "or as number;", "for plan"]),
-    ("leaf", 582, 452, 118, 104, "single", ["f64 to f32, and", "back; for plan,", "numbers, fetch"]),
-    ("leaf", 714, 452, 118, 104, "coder", ["integers as bytes;", "for values, plan,", "numbers, position,", "fetch, write"]),
+    ("leaf", 318, 452, 118, 104, "values, fields", ["the value list, read", "and written; for", "numbers, word, plan,", "write, read"]),
+    ("leaf", 450, 452, 118, 104, "numbers", ["a value as integer", "or as number;", "for word"]),
+    ("leaf", 582, 452, 118, 104, "single", ["f64 to f32, and", "back; for word,", "numbers, fetch"]),
+    ("leaf", 714, 452, 118, 104, "coder", ["integers as bytes;", "for values, word,", "numbers, position,", "fetch, write"]),
     ("leaf", 846, 452, 114, 104, "position", ["starts, offsets,", "positions; for", "fetch, read"]),
 ]
 

@@ -1,4 +1,4 @@
-// The state: the first one, what a setting makes of it, its offset in reading, the zeros before an item, and the state after it.
+// The state: how it is made, what a setting makes of it, its offset in reading, the zeros before an item, and the state after it.
 use definition::Field;
 use definition::Offset;
 use definition::Setting;
@@ -28,37 +28,33 @@ pub enum Next {
 // The greatest length.
 pub const MAX_LENGTH: u64 = 0x7fff_ffff_ffff_ffff;
 
+// The state with a byte order (true: big), a limit and a length.
+pub fn state(big: bool, limit: u64, length: u64) -> State
+    ensures { λ r. ⌜ r ≡ states.state big limit length ⌝ }
+{
+    State { big, limit, length }
+}
+
 // The start state.
 pub fn start() -> State
     ensures { λ r. ⌜ r ≡ states.start ⌝ }
 {
-    State {
-        big: false,
-        limit: 1,
-        length: 0,
-    }
+    state(false, 1, 0)
 }
 
-// The same state, made of its fields: they stay in registers where a loop takes it over, which for `s = t` they don't.
-pub fn same(s: State) -> State
+// The same state, made anew of its parts. A loop that takes its next state from an enum takes it so: the parts then stay in
+// registers from item to item, where a copy of the whole would go through memory.
+pub fn parts(s: State) -> State
     ensures { λ r. ⌜ r ≡ s ⌝ }
 {
-    State {
-        big: s.big,
-        limit: s.limit,
-        length: s.length,
-    }
+    state(s.big, s.limit, s.length)
 }
 
 // The state at an offset in the data, which in reading is its length.
 pub fn at_offset(s: State, o: Offset) -> State
     ensures { λ r. ⌜ r ≡ atOffset s o ⌝ }
 {
-    State {
-        big: s.big,
-        limit: s.limit,
-        length: o.0,
-    }
+    state(s.big, s.limit, o.0)
 }
 
 // The offset in the data of a state in reading.
@@ -73,16 +69,28 @@ pub fn set(s: State, x: Setting) -> State
     ensures { λ r. ⌜ r ≡ states.set x s ⌝ }
 {
     match x {
-        Setting::Order(big) => State {
-            big,
-            limit: s.limit,
-            length: s.length,
-        },
-        Setting::Limit(limit) => State {
-            big: s.big,
-            limit,
-            length: s.length,
-        },
+        Setting::Order(big) => state(big, s.limit, s.length),
+        Setting::Limit(limit) => state(s.big, limit, s.length),
+    }
+}
+
+// The state n bytes on.
+pub fn further(s: State, n: u64) -> State
+    requires { ⌜ s .length + n ≤ 2 ^ 63 - 1 ⌝ }
+    ensures { λ r. ⌜ r ≡ states.further s n ⌝ }
+{
+    state(s.big, s.limit, s.length + n)
+}
+
+// The natural alignment of a field.
+pub fn natural(f: Field) -> u64
+    ensures { λ r. ⌜ r ≡ states.natural f ⌝ }
+{
+    match f {
+        Field::Number(_, n) => n,
+        Field::Chars(_) => 1,
+        Field::ZeroEnded => 1,
+        Field::Counted(_) => 1,
     }
 }
 
@@ -151,18 +159,13 @@ pub fn padding(s: State, natural: u64) -> Amount
 pub fn longer(s: State, n: u64) -> Next
     ensures { λ r. ⌜ stateOf r ≡ states.longer s n ⌝ }
 {
-    let length = s.length;
     if MAX_LENGTH < n {
         return Next::Refused(9);
     }
-    if MAX_LENGTH - n < length {
+    if MAX_LENGTH - n < s.length {
         return Next::Refused(9);
     }
-    Next::State(State {
-        big: s.big,
-        limit: s.limit,
-        length: length + n,
-    })
+    Next::State(further(s, n))
 }
 
 // Whether n bytes more leave the length at most 2^63-1.

@@ -4,6 +4,7 @@ use mathlib.Core.Bool.{not, cond}
 use mathlib.Core.List.{List, [], _∷_}
 use lib.Dec.{eqb}
 use Rattle.definition.specs.Answers.{Checked, refused, accepted}
+use Rattle.definition.specs.States.{state}
 use Rattle.definition.specs.Calls.{Call}
 use Rattle.definition.specs.declared.State.{State}
 use Rattle.definition.specs.declared.Continued.{Continued}
@@ -33,4 +34,4 @@ unpackedWords u = u .length ∷ u .next .0 ∷ []
 
 -- a state: the order 0 is little, and every other number is big
 abbrev pub stateOf : ℕ → ℕ → ℕ → State
-stateOf order limit length = record { big = not (eqb order 0); limit = limit; length = length }
+stateOf order limit length = state (not (eqb order 0)) limit length

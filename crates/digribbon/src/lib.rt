@@ -1,5 +1,5 @@
 // The calls under C names. Each returns 0 and fills its answer, or returns a refusal's number and changes nothing.
-use definition::State;
+use align::state;
 use measure::Measured;
 use measure::list_bound;
 use measure::string_packsize;
@@ -9,6 +9,7 @@ use values::fields_after;
 use write::Packed;
 use write::Total;
 use write::pack_continued;
+use write::pass::Total;
 use write::string_pack;
 ghost use mathlib.Core.Path.{_≡_};
 ghost use Rattle.definition.specs.Answers.{accepted};
@@ -82,12 +83,7 @@ pub extern "C" fn digribbon_pack_continued(
 ) -> u64
     ensures { λ r. ⌜ ((r, now (answer .exit)), now («record» .exit)) ≡ toldWith continuedWords (now (answer .entry)) (packContinued (stateOf order limit length) (now (format .entry)) (now (list .entry)) (now («record» .entry))) ⌝ }
 {
-    let state = State {
-        big: order != 0,
-        limit,
-        length,
-    };
-    match pack_continued(state, format, list, record) {
+    match pack_continued(state(order != 0, limit, length), format, list, record) {
         Total::Refused(k) => k as u64,
         Total::Of(c) => {
             let s = c.next;

@@ -99,42 +99,32 @@ module _ (t : Table) where
       pub ahead : (at < p) × (p ≤ length f)
       ahead = let x = at-item o p q in (x .ahead, x .inside)
 
--- ---- a run: w is the whole of it; o was put out so far, and the state is s at a place
+-- ---- a walk over a format, for any step on what an item does, and any output that is joined
 module _ {S O : Type 0} (step : S → Op → Checked (S × O)) (nothing : O) (_⊕_ : O → O → O) where
   infixl 60 _⊕_
-  abbrev onto : O → Checked (S × O) → Checked (S × O)
-  onto o c = after step nothing _⊕_ o c
+  -- the whole walk w over f, by the table t, has come to a place, with the state s, and has put out o
+  pub record Walked (t : Table) (w : Checked (S × O)) (f : List ℕ) (at : ℕ) (s : S) (o : O) : Type 0 where
+    pub is : w ≡ after step nothing _⊕_ o (run step nothing _⊕_ s (ops t (drop at f)))
 
-  pub record SoFar (t : Table) (f : List ℕ) (w : Checked (S × O)) (at : ℕ) (s : S) (o : O) : Type 0 where
-    pub whole : w ≡ onto o (run step nothing _⊕_ s (ops t (drop at f)))
+  module _ (left : (o : O) → nothing ⊕ o ≡ o) (right : (o : O) → o ⊕ nothing ≡ o) (assoc : (a b c : O) → (a ⊕ b) ⊕ c ≡ a ⊕ (b ⊕ c)) where
+    pub walk-none : (t : Table) (f : List ℕ) (at : ℕ) (s : S) → at ≡ 0 → Walked t (run step nothing _⊕_ s (ops t f)) f at s nothing
+    walk-none t f at s e = record { is = rw e (after-nothing step nothing _⊕_ left assoc (run step nothing _⊕_ s (ops t f))) }
 
-module _ {S O : Type 0} (step : S → Op → Checked (S × O)) (nothing : O) (_⊕_ : O → O → O)
-    (left : (o : O) → nothing ⊕ o ≡ o) (right : (o : O) → o ⊕ nothing ≡ o) (assoc : (a b c : O) → (a ⊕ b) ⊕ c ≡ a ⊕ (b ⊕ c)) (t : Table) (f : List ℕ) where
-  infixl 60 _⊕_
-  abbrev At : Checked (S × O) → ℕ → S → O → Type 0
-  At w at s o = SoFar step nothing _⊕_ t f w at s o
+    module _ {t : Table} {w : Checked (S × O)} {f : List ℕ} {at : ℕ} {s : S} {o : O} (h : Walked t w f at s o) where
+      -- the rest of the items, as they are
+      rest-is : (is : List (Checked Op)) → ops t (drop at f) ≡ is → w ≡ after step nothing _⊕_ o (run step nothing _⊕_ s is)
+      rest-is is e = h .is ∙ ap (λ (x : List (Checked Op)). after step nothing _⊕_ o (run step nothing _⊕_ s x)) e
 
-  pub from-start : (s : S) (at : ℕ) → at ≡ 0 → At (run step nothing _⊕_ s (ops t f)) at s nothing
-  from-start s at e = record { whole = rw e (after-nothing step nothing _⊕_ left assoc (run step nothing _⊕_ s (ops t f))) }
+      pub walk-end : nextAt t at (drop at f) ≡ accepted none → w ≡ accepted (s, o)
+      walk-end q = rest-is [] (at-end t f at q) ∙ ap (λ (x : O). accepted (s, x)) (right o)
 
-  module _ {w : Checked (S × O)} {at : ℕ} {s : S} {o : O} (h : At w at s o) where
-    -- the rest of the items, as they are
-    rest-is : (is : List (Checked Op)) → ops t (drop at f) ≡ is → w ≡ after step nothing _⊕_ o (run step nothing _⊕_ s is)
-    rest-is is e = h .whole ∙ ap (λ (x : List (Checked Op)). after step nothing _⊕_ o (run step nothing _⊕_ s x)) e
+      pub walk-refusal : {k : ℕ} → nextAt t at (drop at f) ≡ refused k → w ≡ refused k
+      walk-refusal {k} q = let x = at-refusal t f at k q in rest-is (refused k ∷ x .0) (x .1)
 
-    pub run-end : nextAt t at (drop at f) ≡ accepted none → w ≡ accepted (s, o)
-    run-end q = rest-is [] (at-end t f at q) ∙ ap (λ (x : O). accepted (s, x)) (right o)
+      -- the item at the place does i, and the next one stands at the place p
+      module _ {i : Op} {p : ℕ} (q : nextAt t at (drop at f) ≡ accepted (some (i, p))) where
+        pub walk-refused : {k : ℕ} → step s i ≡ refused k → w ≡ refused k
+        walk-refused e = rest-is _ (at-item t f at i p q .are) ∙ rw e
 
-    pub run-refusal : (k : ℕ) → nextAt t at (drop at f) ≡ refused k → w ≡ refused k
-    run-refusal k q = let x = at-refusal t f at k q in rest-is (refused k ∷ x .0) (x .1)
-
-    module _ {i : Op} {p : ℕ} (q : nextAt t at (drop at f) ≡ accepted (some (i, p))) where
-      -- the item is refused
-      pub item-refused : (k : ℕ) → step s i ≡ refused k → w ≡ refused k
-      item-refused k e = rest-is _ (at-item t f at i p q .are) ∙ rw e
-
-      -- the item leads to the state u, and puts a out
-      pub item-on : (u : S) (a : O) → step s i ≡ accepted (u, a) → At w p u (o ⊕ a)
-      item-on u a e = record {
-        whole = rest-is _ (at-item t f at i p q .are) ∙ rw e (after-after step nothing _⊕_ left assoc o a (run step nothing _⊕_ u (ops t (drop p f))));
-      }
+        pub walk-on : {u : S} {a : O} → step s i ≡ accepted (u, a) → Walked t w f p u (o ⊕ a)
+        walk-on {u} {a} e = record { is = rest-is _ (at-item t f at i p q .are) ∙ rw e (after-after step nothing _⊕_ left assoc o a (run step nothing _⊕_ u (ops t (drop p f)))) }

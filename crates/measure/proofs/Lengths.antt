@@ -6,7 +6,7 @@ use native.Mathlib.Nat.{zero-add, add-assoc}
 use native.Mathlib.Omega.{arith}
 use lib.Dec.{leb}
 use borrow.Author.Tests.{leb-true, leb-false}
-use Rattle.definition.specs.Answers.{Checked, refused, accepted, _>>=_, _>>_}
+use Rattle.definition.specs.Answers.{Checked, refused, accepted, _>>=_}
 use Rattle.definition.specs.States.{state, further, longer, padding}
 use Rattle.definition.specs.Measuring.{measurePad}
 use Rattle.definition.specs.declared.State.{State}

@@ -1,51 +1,50 @@
--- A run over a format by the cursor, one item at a time, for any step on what an item does.
+-- A walk over a format that puts nothing out, for any step on what an item does.
 use Prim.Native.Nat.{ℕ, _<_, _≤_}
-use mathlib.Core.Path.{_≡_, refl, sym, ap, _∙_}
-use mathlib.Core.List.{List, _∷_}
+use mathlib.Core.Path.{_≡_, refl}
+use mathlib.Core.List.{List}
 use mathlib.Core.Option.{none, some}
 use lib.ListN.{length, drop}
-use Rattle.definition.specs.Answers.{Checked, refused, accepted, _>>=_, after, run}
-use Rattle.definition.specs.Items.{Item, items}
-use Rattle.definition.specs.Ops.{opOf}
+use Rattle.definition.specs.Answers.{Checked, refused, accepted, _>>=_}
+use Rattle.definition.specs.Items.{items}
 use Rattle.definition.specs.Measuring.{silent}
 use Rattle.definition.specs.declared.State.{State}
 use Rattle.definition.specs.declared.Op.{Op}
 use Rattle.format.specs.Steps.{nextAt}
-use Rattle.format.proofs.Walking.{at-end, at-refusal, at-item}
+use Rattle.format.proofs.Walking.{at-item, walk, Walked, walk-none, walk-end, walk-refusal, walk-refused, walk-on}
 
 module _ (step : State → Op → Checked State) where
-  -- the step on an item, which puts nothing out
-  abbrev pub stepItem : State → Item → Checked (State × Unit {0})
-  stepItem s i = do
-    o ← opOf i
-    t ← step s o
-    accepted (t, tt)
+  -- the step, with nothing for an output
+  abbrev quiet : State → Op → Checked (State × Unit {0})
+  quiet s o = step s o >>= λ t. accepted (t, tt)
 
-  abbrev pub runs : State → List Item → Checked (State × Unit {0})
-  runs s is = run stepItem tt silent s is
+  -- the walk over the items of a format
+  abbrev pub walks : State → List ℕ → Checked (State × Unit {0})
+  walks s f = walk quiet tt silent s (items f)
 
-  nothing-out : (c : Checked (State × Unit {0})) → after stepItem tt silent tt c ≡ c
-  nothing-out (refused k) = refl
-  nothing-out (accepted r) = refl
+  -- the whole walk w over f has come to a place and to the state s
+  abbrev pub Ran : Checked (State × Unit {0}) → List ℕ → ℕ → State → Type 0
+  Ran w f at s = Walked quiet tt silent w f at s tt
 
-  run-refused : (s : State) (i : Item) (is : List Item) (k : ℕ) → opOf i ≡ refused k → runs s (i ∷ is) ≡ refused k
-  run-refused s i is k q = rw q
+  same : (o : Unit {0}) → tt ≡ o
+  same o = refl
 
-  run-steps : (s : State) (i : Item) (is : List Item) (o : Op) → opOf i ≡ accepted o → (c : Checked State) → step s o ≡ c → runs s (i ∷ is) ≡ (c >>= λ t. runs t is)
-  run-steps s i is o q (refused k) p = rw (q, p)
-  run-steps s i is o q (accepted t) p = rw (q, p) (nothing-out (runs t is))
+  pub run-none : (s : State) (f : List ℕ) (at : ℕ) → at ≡ 0 → Ran (walks s f) f at s
+  run-none s f at e = walk-none quiet tt silent same same (λ a b c. refl) f at s e
 
-  -- what the whole run w is, by what the cursor reads at a place
-  module _ (w : Checked (State × Unit {0})) (f : List ℕ) (at : ℕ) (s : State) (inv : runs s (items (drop at f)) ≡ w) where
+  module _ {w : Checked (State × Unit {0})} {f : List ℕ} {at : ℕ} {s : State} (h : Ran w f at s) where
     pub run-end : nextAt at (drop at f) ≡ accepted none → w ≡ accepted (s, tt)
-    run-end q = sym inv ∙ ap (runs s) (at-end f at q)
+    run-end q = walk-end quiet tt silent same same (λ a b c. refl) h q
 
-    pub run-refusal : (k : ℕ) → nextAt at (drop at f) ≡ refused k → w ≡ refused k
-    run-refusal k q = let x = at-refusal f at k q in sym inv ∙ ap (runs s) (x .are) ∙ run-refused s (x .first) (x .rest) k (x .refuses)
+    pub run-refusal : {k : ℕ} → nextAt at (drop at f) ≡ refused k → w ≡ refused k
+    run-refusal q = walk-refusal quiet tt silent same same (λ a b c. refl) h q
 
-    pub run-item : (o : Op) (p : ℕ) → nextAt at (drop at f) ≡ accepted (some (o, p)) → (c : Checked State) → step s o ≡ c → w ≡ (c >>= λ t. runs t (items (drop p f)))
-    run-item o p q c e = let x = at-item f at o p q in sym inv ∙ ap (runs s) (x .are) ∙ run-steps s (x .first) (items (drop p f)) o (x .does) c e
+    module _ {op : Op} {p : ℕ} (q : nextAt at (drop at f) ≡ accepted (some (op, p))) where
+      pub run-refused : {k : ℕ} → step s op ≡ refused k → w ≡ refused k
+      run-refused e = walk-refused quiet tt silent same same (λ a b c. refl) h q (rw e)
+
+      pub run-on : {t : State} → step s op ≡ accepted t → Ran w f p t
+      run-on e = walk-on quiet tt silent same same (λ a b c. refl) h q (rw e)
 
 -- an item takes the cursor on, inside the format
-pub ahead : (f : List ℕ) (at : ℕ) (o : Op) (p : ℕ) → nextAt at (drop at f) ≡ accepted (some (o, p)) → (at < p) × (p ≤ length f)
-ahead f at o p q = let x = at-item f at o p q in (x .ahead, x .inside)
+pub ahead : (f : List ℕ) (at : ℕ) {o : Op} {p : ℕ} → nextAt at (drop at f) ≡ accepted (some (o, p)) → (at < p) × (p ≤ length f)
+ahead f at {o} {p} q = let x = at-item f at o p q in (x .ahead, x .inside)

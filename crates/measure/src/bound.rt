@@ -5,7 +5,10 @@ use align::MAX_LENGTH;
 use align::Next as Stepped;
 use align::alignment;
 use align::longer;
+use align::natural;
+use align::parts;
 use align::set;
+use align::start;
 use definition::Field;
 use definition::Op;
 use definition::State;
@@ -14,7 +17,6 @@ use format::cursor::Next;
 use format::options::table;
 ghost use mathlib.Core.Path.{_≡_};
 ghost use Prim.Native.Nat.{_+_, min};
-ghost use Rattle.definition.specs.States as states;
 ghost use Rattle.definition.specs.Bound as bounds;
 ghost use Rattle.definition.specs.Calls.{listBound};
 ghost use Rattle.align.specs.Amounts.{stateOf};
@@ -38,18 +40,6 @@ fn most(f: Field, data_length: u64) -> u64
         Field::Chars(n) => text_field(n),
         Field::ZeroEnded => text_field(data_length),
         Field::Counted(_) => text_field(data_length),
-    }
-}
-
-// The natural alignment of a field.
-fn natural(f: Field) -> u64
-    ensures { λ r. ⌜ r ≡ states.natural f ⌝ }
-{
-    match f {
-        Field::Number(_, n) => n,
-        Field::Chars(_) => 1,
-        Field::ZeroEnded => 1,
-        Field::Counted(_) => 1,
     }
 }
 
@@ -91,11 +81,7 @@ fn bound_by(table: &[u8; 256], format: &[u8], data_length: u64) -> Measured
     ensures { λ r. ⌜ measuredOf r ≡ bounds.bound (now (format .entry)) «data_length» ⌝ }
 {
     let mut c = Cursor::new();
-    let mut s = State {
-        big: false,
-        limit: 1,
-        length: 0,
-    };
+    let mut s = start();
     loop {
         match c.next(table, format) {
             Next::End => return Measured::Size(s.length),
@@ -103,11 +89,7 @@ fn bound_by(table: &[u8; 256], format: &[u8], data_length: u64) -> Measured
             Next::Item(i, d) => match bound_op(s, i.op(), data_length) {
                 Stepped::Refused(k) => return Measured::Refused(k),
                 Stepped::State(t) => {
-                    s = State {
-                        big: t.big,
-                        limit: t.limit,
-                        length: t.length,
-                    };
+                    s = parts(t);
                     c = d;
                 }
             },

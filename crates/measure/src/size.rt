@@ -2,8 +2,11 @@
 use align::Amount;
 use align::Next as Stepped;
 use align::longer;
+use align::natural;
 use align::padding;
+use align::parts;
 use align::set;
+use align::start;
 use definition::Field;
 use definition::Op;
 use definition::State;
@@ -11,9 +14,9 @@ use format::cursor::Cursor;
 use format::cursor::Next;
 use format::options::table;
 ghost use mathlib.Core.Path.{_≡_};
-ghost use Rattle.definition.specs.Measuring.{measurePad, measureOp, measure};
+ghost use Rattle.definition.specs.Measuring.{sizeOf, measurePad, measureOp, measureFrom};
 ghost use Rattle.definition.specs.Calls.{stringPacksize};
-ghost use Rattle.align.specs.Amounts.{stateOf};
+ghost use Rattle.align.specs.Amounts.{amountOf, stateOf};
 ghost use Rattle.format.specs.Packed.{packed};
 ghost use Rattle.measure.specs.Fields.{measureField};
 ghost use Rattle.measure.specs.Measured.{measuredOf};
@@ -42,15 +45,25 @@ fn measure_pad(s: State, natural: u64, n: u64) -> Stepped
     }
 }
 
+// The size of a field, or 10.
+fn size_of(f: Field) -> Amount
+    ensures { λ r. ⌜ amountOf r ≡ sizeOf f ⌝ }
+{
+    match f {
+        Field::Number(_, n) => Amount::Bytes(n),
+        Field::Chars(n) => Amount::Bytes(n),
+        Field::ZeroEnded => Amount::Refused(10),
+        Field::Counted(_) => Amount::Refused(10),
+    }
+}
+
 // The state after a field.
 fn measure_field(s: State, f: Field) -> Stepped
     ensures { λ r. ⌜ stateOf r ≡ measureField s f ⌝ }
 {
-    match f {
-        Field::Number(_, n) => measure_pad(s, n, n),
-        Field::Chars(n) => measure_pad(s, 1, n),
-        Field::ZeroEnded => Stepped::Refused(10),
-        Field::Counted(_) => Stepped::Refused(10),
+    match size_of(f) {
+        Amount::Refused(k) => Stepped::Refused(k),
+        Amount::Bytes(n) => measure_pad(s, natural(f), n),
     }
 }
 
@@ -66,29 +79,21 @@ fn measure_op(s: State, op: Op) -> Stepped
     }
 }
 
-// The size of a format, by the option table.
-fn measure_by(table: &[u8; 256], format: &[u8]) -> Measured
+// The state that a format leads to from a state, by the option table.
+fn measure_from(table: &[u8; 256], format: &[u8], from: State) -> Stepped
     requires { ⌜ now table ≡ packed ⌝ }
-    ensures { λ r. ⌜ measuredOf r ≡ measure (now (format .entry)) ⌝ }
+    ensures { λ r. ⌜ stateOf r ≡ measureFrom from (now (format .entry)) ⌝ }
 {
     let mut c = Cursor::new();
-    let mut s = State {
-        big: false,
-        limit: 1,
-        length: 0,
-    };
+    let mut s = from;
     loop {
         match c.next(table, format) {
-            Next::End => return Measured::Size(s.length),
-            Next::Refused(k) => return Measured::Refused(k),
+            Next::End => return Stepped::State(s),
+            Next::Refused(k) => return Stepped::Refused(k),
             Next::Item(i, d) => match measure_op(s, i.op()) {
-                Stepped::Refused(k) => return Measured::Refused(k),
+                Stepped::Refused(k) => return Stepped::Refused(k),
                 Stepped::State(t) => {
-                    s = State {
-                        big: t.big,
-                        limit: t.limit,
-                        length: t.length,
-                    };
+                    s = parts(t);
                     c = d;
                 }
             },
@@ -101,5 +106,8 @@ pub fn string_packsize(format: &[u8]) -> Measured
     ensures { λ r. ⌜ measuredOf r ≡ stringPacksize (now (format .entry)) ⌝ }
 {
     let options = table();
-    measure_by(&options, format)
+    match measure_from(&options, format, start()) {
+        Stepped::Refused(k) => Measured::Refused(k),
+        Stepped::State(s) => Measured::Size(s.length),
+    }
 }

@@ -1,23 +1,22 @@
 -- The plan of an item is what writing does: one law for each way through its checks.
-use Prim.Native.Nat.{ℕ, zero, suc, _+_, _-_, _%_, _^_, _≤_, _<_, min}
+use Prim.Native.Nat.{ℕ, _+_, _-_, _^_, _≤_, _<_, min}
 use native.Mathlib.Omega.{arith}
-use native.Mathlib.Nat.{zero-add, mod-lt, lt-of-lt-of-le}
 use mathlib.Core.Path.{_≡_, refl, sym, ap, _∙_, subst}
-use mathlib.Core.Bool.{Bool, true, false, not, _&&_, _||_}
+use mathlib.Core.Bool.{Bool, true, false, not, _&&_}
 use mathlib.Core.List.{List, [], _∷_, _++_, map}
-use lib.Dec.{T, leb, eqb, eqb→eq, leb→le, ltb→lt, lit≤}
+use lib.Dec.{T, leb, eqb→eq, leb→le, ltb→lt}
 use lib.ListN.{length, take, drop}
 use borrow.Author.Tests.{leb-true}
-use Rattle.definition.specs.Answers.{Checked, refused, accepted, _>>=_, _>>_, require, orElse}
-use Rattle.definition.specs.Bytes.{laid, coded}
+use Rattle.definition.specs.Answers.{refused, accepted}
+use Rattle.definition.specs.Bytes.{laid}
 use Rattle.definition.specs.Calls.{atMost63}
 use Rattle.definition.specs.Ops.{isPower}
 use Rattle.definition.specs.Values as definition
-use Rattle.definition.specs.Values.{text, asBytes}
+use Rattle.definition.specs.Values.{text}
 use Rattle.definition.specs.Lists.{values}
-use Rattle.definition.specs.States.{set, further, longer, natural, alignment, fill, padding}
+use Rattle.definition.specs.States.{further, longer, natural, alignment, fill, padding}
 use Rattle.definition.specs.Fields.{word, encode}
-use Rattle.definition.specs.Writing.{byte, pads, output, nothing, place, taking, early, writePad, writeField, writeOp}
+use Rattle.definition.specs.Writing.{byte, pads, output, place, early, writeField, writeOp}
 use Rattle.definition.specs.declared.State.{State}
 use Rattle.definition.specs.declared.Setting.{Setting}
 use Rattle.definition.specs.declared.Kind.{Kind}
@@ -26,75 +25,45 @@ use Rattle.definition.specs.declared.Field.{Field}
 use Rattle.definition.specs.declared.Field.the-variants as Field
 use Rattle.definition.specs.declared.Op.{Op}
 use Rattle.definition.specs.declared.Op.the-variants as Op
-use Rattle.definition.proofs.Answers.{never, same, bound, passed, true-not-false}
+use Rattle.definition.proofs.Answers.{same, bound, passed, true-not-false}
 use Rattle.definition.proofs.Bytes.{length-laid}
 use Rattle.definition.proofs.Calls.{Sound}
 use Rattle.definition.proofs.Fields.{validField}
 use Rattle.definition.proofs.Numbers.{validSize}
-use Rattle.definition.proofs.Ops.{validOp}
-use Rattle.definition.proofs.Steps.{Roomy, room-longer}
+use Rattle.definition.proofs.Ops.{power-cases, validOp}
+use Rattle.definition.proofs.Steps.{room-longer}
 use Rattle.values.specs.Meaning.{meaning, FieldRead}
 use Rattle.values.specs.declared.Field.the-variants as Found
 use Rattle.values.specs.declared.Value.{Value}
 use Rattle.values.proofs.Fields.{takes-none, takes-first}
-use Rattle.plan.specs.Words.{fillOf, wordBytes, Says}
-use Rattle.plan.specs.Texts.{firstText, TextFound, TextAt, TextRead}
+use Rattle.word.specs.Words.{fillOf, Says}
+use Rattle.plan.specs.Texts.{firstText, TextAt, TextRead}
 use Rattle.plan.specs.Plans.{textBytes, wrote, Encoded, Wrote, Padded, ItemPlan, ItemAt, NumberPlan, TextPlan}
 use Rattle.plan.specs.declared.item.Plan.{Plan}
 use Rattle.plan.specs.declared.item.Plan.the-variants as Plan
 use Rattle.plan.specs.declared.text.Text.the-variants as Text
-use Rattle.plan.specs.declared.word.Word.the-variants as Word
+use Rattle.word.specs.declared.Word.the-variants as Word
 use Rattle.plan.proofs.Texts.{text-length, within-to-16, TextField, no-text}
 
 -- ---- padding is below 16
-
-power-le : (a : ℕ) → isPower a ≡ true → (1 ≤ a) × (a ≤ 16)
-power-le a e = go (eqb a 1) refl (eqb a 2) refl (eqb a 4) refl (eqb a 8) refl (eqb a 16) refl e
-  where
-    is : (k : ℕ) → eqb a k ≡ true → a ≡ k
-    is k e = eqb→eq a k (subst T (sym e) tt)
-
-    go : (t1 : Bool) → eqb a 1 ≡ t1 → (t2 : Bool) → eqb a 2 ≡ t2 → (t4 : Bool) → eqb a 4 ≡ t4 → (t8 : Bool) → eqb a 8 ≡ t8 → (t16 : Bool) → eqb a 16 ≡ t16
-        → (t1 || (t2 || (t4 || (t8 || t16)))) ≡ true → (1 ≤ a) × (a ≤ 16)
-    go true e1 t2 e2 t4 e4 t8 e8 t16 e16 e = let i = is 1 e1 in (omega arith, omega arith)
-    go false e1 true e2 t4 e4 t8 e8 t16 e16 e = let i = is 2 e2 in (omega arith, omega arith)
-    go false e1 false e2 true e4 t8 e8 t16 e16 e = let i = is 4 e4 in (omega arith, omega arith)
-    go false e1 false e2 false e4 true e8 t16 e16 e = let i = is 8 e8 in (omega arith, omega arith)
-    go false e1 false e2 false e4 false e8 true e16 e = let i = is 16 e16 in (omega arith, omega arith)
-    go false e1 false e2 false e4 false e8 false e16 e = absurd (true-not-false (sym e))
 
 pub padding-lt : (s : State) (n p : ℕ) → padding s n ≡ accepted p → p < 16
 unfolding alignment padding
 padding-lt s n p e =
     let b = bound (alignment s n) (λ a. accepted (fill a (s .length))) e in
     let c = passed (isPower (min n (s .limit))) 6 (accepted (min n (s .limit))) (b .is) in
-    let a = power-le (b .val) (subst (λ (x : ℕ). isPower x ≡ true) (same (c .1)) (c .0)) in
-    subst (λ (x : ℕ). x < 16) (same (b .rest)) (lt-of-lt-of-le (mod-lt (b .val - s .length % b .val) (a .0)) (a .1))
+    subst (λ (x : ℕ). x < 16) (same (b .rest)) (below (b .val) (subst (λ (x : ℕ). isPower x ≡ true) (same (c .1)) (c .0)))
+  where
+    below : (a : ℕ) → isPower a ≡ true → fill a (s .length) < 16
+    below = power-cases (λ a. fill a (s .length) < 16) (omega arith) (omega arith) (omega arith) (omega arith) (omega arith)
 
--- ---- a sound state
-module _ (s : State) (h : Sound s) where
-  pub sound-length : s .length ≤ 2 ^ 63 - 1
-  sound-length = go (isPower (s .limit)) (atMost63 (s .length)) refl h
-    where
-      go : (a b : Bool) → atMost63 (s .length) ≡ b → (a && b) ≡ true → s .length ≤ 2 ^ 63 - 1
-      go true true e i = leb-true (s .length) (2 ^ 63 - 1) e
-      go true false e i = absurd (true-not-false (sym i))
-      go false b e i = absurd (true-not-false (sym i))
-
-  sound-limit : 1 ≤ s .limit
-  sound-limit = go (isPower (s .limit)) (atMost63 (s .length)) refl h
-    where
-      go : (a b : Bool) → isPower (s .limit) ≡ a → (a && b) ≡ true → 1 ≤ s .limit
-      go true b e i = power-le (s .limit) e .0
-      go false b e i = absurd (true-not-false (sym i))
-
-  -- what has the natural alignment 1 is not aligned
-  pub unpadded : padding s 1 ≡ accepted 0
-  unfolding alignment padding
-  unpadded =
-      let e : min 1 (s .limit) ≡ 1 = omega (arith, sound-limit) in
-      let m : (1 - s .length % 1) % 1 ≡ 0 = omega arith in
-      rw (e, m)
+pub sound-length : (s : State) → Sound s → s .length ≤ 2 ^ 63 - 1
+sound-length s h = go (isPower (s .limit)) (atMost63 (s .length)) refl h
+  where
+    go : (a b : Bool) → atMost63 (s .length) ≡ b → (a && b) ≡ true → s .length ≤ 2 ^ 63 - 1
+    go true true e i = leb-true (s .length) (2 ^ 63 - 1) e
+    go true false e i = absurd (true-not-false (sym i))
+    go false b e i = absurd (true-not-false (sym i))
 
 -- ---- 9
 no-room : (s : State) (n : ℕ) → leb (s .length + n) (2 ^ 63 - 1) ≡ false → longer s n ≡ refused 9
@@ -118,48 +87,48 @@ module _ (s : State) (vs : List definition.Value) (n k : ℕ) where
 
 -- ---- fields
 module _ (s : State) (f : Field) where
-  pub field-unaligned : (vs : List definition.Value) (j : ℕ) → padding s (natural f) ≡ refused j → writeOp (place s vs) (Op.Put f) ≡ refused j
+  pub unaligned : (l : List ℕ) (at : ℕ) {j : ℕ} → padding s (natural f) ≡ refused j → ItemAt l at s (Op.Put f) (Plan.Refused j)
   unfolding writeOp writeField
-  field-unaligned vs j e = rw e
+  unaligned l at e vs known = rw e
 
   module _ (p : ℕ) (e : padding s (natural f) ≡ accepted p) where
-    pub field-early : (vs : List definition.Value) (j : ℕ) → early s f ≡ refused j → writeOp (place s vs) (Op.Put f) ≡ refused j
+    field-early : (vs : List definition.Value) (j : ℕ) → early s f ≡ refused j → writeOp (place s vs) (Op.Put f) ≡ refused j
     unfolding writeOp writeField
     field-early vs j g = rw (e, g)
 
     module _ (u : State) (g : early s f ≡ accepted u) where
-      pub field-none : writeOp (place s []) (Op.Put f) ≡ refused 11
+      field-none : writeOp (place s []) (Op.Put f) ≡ refused 11
       unfolding writeOp writeField
       field-none = rw (e, g)
 
       module _ (v : definition.Value) (vs : List definition.Value) where
-        pub field-refused : (j : ℕ) → encode (s .big) f v ≡ refused j → writeOp (place s (v ∷ vs)) (Op.Put f) ≡ refused j
+        field-refused : (j : ℕ) → encode (s .big) f v ≡ refused j → writeOp (place s (v ∷ vs)) (Op.Put f) ≡ refused j
         unfolding writeOp writeField
         field-refused j h = rw (e, g, h)
 
-        pub field-long : (bs : List ℕ) (j : ℕ) → encode (s .big) f v ≡ accepted bs → longer s (p + length bs) ≡ refused j → writeOp (place s (v ∷ vs)) (Op.Put f) ≡ refused j
+        field-long : (bs : List ℕ) (j : ℕ) → encode (s .big) f v ≡ accepted bs → longer s (p + length bs) ≡ refused j → writeOp (place s (v ∷ vs)) (Op.Put f) ≡ refused j
         unfolding writeOp writeField
         field-long bs j h w = rw (e, g, h, w)
 
-        pub field-put : (bs : List ℕ) (t : State) → encode (s .big) f v ≡ accepted bs → longer s (p + length bs) ≡ accepted t → writeOp (place s (v ∷ vs)) (Op.Put f) ≡ accepted (place t vs, output (pads p ++ map byte bs) ((f, v) ∷ []) 1)
+        field-put : (bs : List ℕ) (t : State) → encode (s .big) f v ≡ accepted bs → longer s (p + length bs) ≡ accepted t → writeOp (place s (v ∷ vs)) (Op.Put f) ≡ accepted (place t vs, output (pads p ++ map byte bs) ((f, v) ∷ []) 1)
         unfolding writeOp writeField
         field-put bs t h w = rw (e, g, h, w)
 
 -- ---- a field that passed all checks but 9
 module _ (l : List ℕ) (s : State) (vs : List definition.Value) (f : Field) (p : ℕ) (bytes : List ℕ) (next size : ℕ) (x : Encoded l s vs f p bytes next) (long : p + length bytes ≡ size) where
-  pub encoded-long : leb (s .length + size) (2 ^ 63 - 1) ≡ false → wrote s vs (Op.Put f) ≡ refused 9
+  encoded-long : leb (s .length + size) (2 ^ 63 - 1) ≡ false → wrote s vs (Op.Put f) ≡ refused 9
   encoded-long h =
       ap (λ (ws : List definition.Value). wrote s ws (Op.Put f)) (x .first)
       ∙ field-long s f p (x .padded) (x .state) (x .early-is) (x .val) (x .rest) bytes 9 (x .encoded) (ap (longer s) long ∙ no-room s size h)
 
-  pub encoded-put : leb (s .length + size) (2 ^ 63 - 1) ≡ true → Wrote l s vs (Op.Put f) p bytes size next
+  encoded-put : leb (s .length + size) (2 ^ 63 - 1) ≡ true → Wrote l s vs (Op.Put f) p bytes size next
   encoded-put h = record {
     field = f;
     val = x .val;
     rest = x .rest;
     is =
-      ap (λ (ws : List definition.Value). wrote s ws (Op.Put f)) (x .first)
-      ∙ field-put s f p (x .padded) (x .state) (x .early-is) (x .val) (x .rest) bytes (further s size) (x .encoded) (ap (longer s) long ∙ room-longer s size h);
+        ap (λ (ws : List definition.Value). wrote s ws (Op.Put f)) (x .first)
+        ∙ field-put s f p (x .padded) (x .state) (x .early-is) (x .val) (x .rest) bytes (further s size) (x .encoded) (ap (longer s) long ∙ room-longer s size h);
     long = long;
     room = leb-true (s .length + size) (2 ^ 63 - 1) h;
     list = x .list;
@@ -198,9 +167,6 @@ module _ (s : State) (p : ℕ) (k : Kind) (n : ℕ) (v : Value) (next : ℕ) whe
 
 -- by what stands in the list
 module _ (l : List ℕ) (at : ℕ) (s : State) (k : Kind) (n : ℕ) where
-  pub number-unaligned : (j : ℕ) → padding s n ≡ refused j → ItemAt l at s (Op.Put (Field.Number k n)) (Plan.Refused j)
-  number-unaligned j e vs known = field-unaligned s (Field.Number k n) vs j e
-
   module _ (p : ℕ) (e : padding s n ≡ accepted p) where
     pub number-none : FieldRead l at Found.End → ItemAt l at s (Op.Put (Field.Number k n)) (Plan.Refused 11)
     number-none h vs known = ap (λ (ws : List definition.Value). wrote s ws (Op.Put (Field.Number k n))) (takes-none l at vs known (h .says)) ∙ field-none s (Field.Number k n) p e s refl
@@ -211,47 +177,39 @@ module _ (l : List ℕ) (at : ℕ) (s : State) (k : Kind) (n : ℕ) where
         subst (λ (ws : List definition.Value). ItemPlan l s ws (Op.Put (Field.Number k n)) r) (sym (t .is)) (q l (t .others) e (t .left))
 
 -- ---- texts
-module _ (s : State) (n start len zeros next : ℕ) where
-  pub text-long : leb (s .length + (n + len + zeros)) (2 ^ 63 - 1) ≡ false → TextPlan s n start len zeros next (Plan.Refused 9)
-  text-long h l vs f x within = encoded-long l s vs f 0 _ next (n + len + zeros) x (zero-add _ ∙ text-length (s .big) l start len within n zeros) h
+module _ (s : State) (p n start len zeros next : ℕ) where
+  text-size : (l : List ℕ) → start + len ≤ length l → p + length (textBytes (s .big) l n start len zeros) ≡ p + (n + len + zeros)
+  text-size l within = ap (λ (m : ℕ). p + m) (text-length (s .big) l start len within n zeros)
 
-  pub text-put : leb (s .length + (n + len + zeros)) (2 ^ 63 - 1) ≡ true → TextPlan s n start len zeros next (Plan.Text n start len zeros next)
-  text-put h l vs f x within = (encoded-put l s vs f 0 _ next (n + len + zeros) x (zero-add _ ∙ text-length (s .big) l start len within n zeros) h, within)
+  pub text-long : leb (s .length + (p + (n + len + zeros))) (2 ^ 63 - 1) ≡ false → TextPlan s p n start len zeros next (Plan.Refused 9)
+  text-long h l vs f x within = encoded-long l s vs f p _ next _ x (text-size l within) h
 
-module _ (l : List ℕ) (at : ℕ) (s : State) (f : Field) (sound : Sound s) (is-text : TextField f) where
-  text-padded : padding s (natural f) ≡ accepted 0
-  text-padded = go f is-text
-    where
-      go : (g : Field) → TextField g → padding s (natural g) ≡ accepted 0
-      go (Field.Number k n) t = absurd t
-      go (Field.Chars n) t = unpadded s sound
-      go Field.ZeroEnded t = unpadded s sound
-      go (Field.Counted n) t = unpadded s sound
+  pub text-put : leb (s .length + (p + (n + len + zeros))) (2 ^ 63 - 1) ≡ true → TextPlan s p n start len zeros next (Plan.Text p n start len zeros next)
+  text-put h l vs f x within = (encoded-put l s vs f p _ next _ x (text-size l within) h, within)
 
-  pub text-early : (j : ℕ) → early s f ≡ refused j → ItemAt l at s (Op.Put f) (Plan.Refused j)
-  text-early j g vs known = field-early s f 0 text-padded vs j g
+module _ (l : List ℕ) (at : ℕ) (s : State) (f : Field) (is-text : TextField f) where
+  module _ {p : ℕ} (padded : padding s (natural f) ≡ accepted p) where
+    pub text-early : {j : ℕ} → early s f ≡ refused j → ItemAt l at s (Op.Put f) (Plan.Refused j)
+    text-early {j} g vs known = field-early s f p padded vs j g
 
-  module _ (u : State) (g : early s f ≡ accepted u) where
-    pub text-missing : (j : ℕ) → TextRead l at (Text.Refused j) → ItemAt l at s (Op.Put f) (Plan.Refused j)
-    text-missing j h vs known = go vs (h vs known)
-      where
-        go : (ws : List definition.Value) → firstText ws ≡ refused j → wrote s ws (Op.Put f) ≡ refused j
-        go [] e = let i : 11 ≡ j = cc in field-none s f 0 text-padded u g ∙ ap refused i
-        go (v ∷ ws) e = field-refused s f 0 text-padded u g v ws j (no-text (s .big) f v j is-text e)
+    module _ {u : State} (g : early s f ≡ accepted u) where
+      pub text-missing : {j : ℕ} → TextRead l at (Text.Refused j) → ItemAt l at s (Op.Put f) (Plan.Refused j)
+      text-missing {j} h vs known = go vs (h vs known)
+        where
+          go : (ws : List definition.Value) → firstText ws ≡ refused j → wrote s ws (Op.Put f) ≡ refused j
+          go [] e = let i : 11 ≡ j = cc in field-none s f p padded u g ∙ ap refused i
+          go (v ∷ ws) e = field-refused s f p padded u g v ws j (no-text (s .big) f v j is-text e)
 
-    module _ (start n next : ℕ) (h : TextAt l at start n next) where
-      pub text-refused : (j : ℕ) → encode (s .big) f (text (take n (drop start l))) ≡ refused j → ItemAt l at s (Op.Put f) (Plan.Refused j)
-      text-refused j e vs known =
-          let t = h .found vs known in
-          ap (λ (ws : List definition.Value). wrote s ws (Op.Put f)) (t .is) ∙ field-refused s f 0 text-padded u g _ (t .rest) j e
+      module _ {start n next : ℕ} (h : TextAt l at start n next) where
+        pub text-refused : {j : ℕ} → encode (s .big) f (text (take n (drop start l))) ≡ refused j → ItemAt l at s (Op.Put f) (Plan.Refused j)
+        text-refused {j} e vs known =
+            let t = h .found vs known in
+            ap (λ (ws : List definition.Value). wrote s ws (Op.Put f)) (t .is) ∙ field-refused s f p padded u g _ (t .rest) j e
 
-      pub text-encoded : (bytes : List ℕ) → encode (s .big) f (text (take n (drop start l))) ≡ accepted bytes → (vs : List definition.Value) → values (drop at l) ≡ accepted vs → Encoded l s vs f 0 bytes next
-      text-encoded bytes e vs known =
-          let t = h .found vs known in
-          record { padded = text-padded; state = u; early-is = g; val = text (take n (drop start l)); rest = t .rest; first = t .is; encoded = e; list = t .list }
-
-      pub text-planned : (m zeros : ℕ) (r : Plan) → encode (s .big) f (text (take n (drop start l))) ≡ accepted (textBytes (s .big) l m start n zeros) → TextPlan s m start n zeros next r → ItemAt l at s (Op.Put f) r
-      text-planned m zeros r e q vs known = q l vs f (text-encoded (textBytes (s .big) l m start n zeros) e vs known) (h .within)
+        pub text-planned : (m zeros : ℕ) (r : Plan) → encode (s .big) f (text (take n (drop start l))) ≡ accepted (textBytes (s .big) l m start n zeros) → TextPlan s p m start n zeros next r → ItemAt l at s (Op.Put f) r
+        text-planned m zeros r e q vs known =
+            let t = h .found vs known in
+            q l vs f (record { padded = padded; state = u; early-is = g; val = text (take n (drop start l)); rest = t .rest; first = t .is; encoded = e; list = t .list }) (h .within)
 
 -- c checks 9 early
 pub chars-early : (s : State) (n : ℕ) → leb (s .length + n) (2 ^ 63 - 1) ≡ false → early s (Field.Chars n) ≡ refused 9
@@ -259,9 +217,6 @@ chars-early s n e = no-room s n e
 
 pub chars-room : (s : State) (n : ℕ) → leb (s .length + n) (2 ^ 63 - 1) ≡ true → early s (Field.Chars n) ≡ accepted (further s n)
 chars-room s n e = room-longer s n e
-
-pub chars-put : (s : State) (m start n next : ℕ) → n ≤ m → leb (s .length + m) (2 ^ 63 - 1) ≡ true → TextPlan s 0 start n (m - n) next (Plan.Text 0 start n (m - n) next)
-chars-put s m start n next h r = let e : 0 + n + (m - n) ≡ m = omega arith in text-put s 0 start n (m - n) next (ap (λ (k : ℕ). leb (s .length + k) (2 ^ 63 - 1)) e ∙ r)
 
 -- ---- an item, by what it is
 pub of-op : (l : List ℕ) (at : ℕ) (s : State) (o q : Op) (r : Plan) → ItemAt l at s q r → o ≡ q → ItemAt l at s o r

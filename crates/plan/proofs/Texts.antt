@@ -7,32 +7,31 @@ use mathlib.Core.Path.{_≡_, refl, sym, ap, _∙_, subst}
 use mathlib.Core.Bool.{Bool, true, false, _&&_, _||_, cond, or-true}
 use mathlib.Core.List.{List, [], _∷_, _++_, append-nil}
 use mathlib.Core.Logic.{⊎-elim}
-use mathlib.Core.Option.{none, some}
+use mathlib.Core.Option.{none}
 use lib.Dec.{T, leb, ltb, eqb}
 use lib.ListN.{length, take, drop, getD, replicate, length-append, length-drop, length-replicate}
 use lib.Seq.{length-take-le, take-suc, getD-drop}
 use types.Run.{OneOf}
 use denote.Enum.Declared.{tagOf}
 use borrow.Author.Tests.{leb-true, leb-false, le-leb, lt-leb, lt-ltb, le-ltb, eq-eqb, ne-eqb}
-use Rattle.definition.specs.Answers.{Checked, refused, accepted, _>>=_, orElse}
+use Rattle.definition.specs.Answers.{refused, accepted, orElse}
 use Rattle.definition.specs.Bytes.{little, laid}
 use Rattle.definition.specs.Ops.{within16}
 use Rattle.definition.specs.Values as definition
-use Rattle.definition.specs.Values.{integer, float, text, other, asBytes}
+use Rattle.definition.specs.Values.{text, asBytes}
 use Rattle.definition.specs.Lists.{values}
 use Rattle.definition.specs.Fields.{encode, hasZero}
 use Rattle.definition.specs.declared.Field.{Field}
 use Rattle.definition.specs.declared.Field.the-variants as Field
-use Rattle.definition.proofs.Answers.{never, same}
-use Rattle.definition.proofs.Bytes.{pow-le, length-laid, length-part}
+use Rattle.definition.proofs.Bytes.{pow-le, length-laid}
 use Rattle.definition.proofs.Numbers.{within-from-1}
-use Rattle.values.specs.Meaning.{meaning, Inside, fieldAt, FieldRead}
+use Rattle.values.specs.Meaning.{meaning, Inside, FieldRead}
 use Rattle.values.specs.declared.Field.the-variants as Found
 use Rattle.values.specs.declared.Value.{Value}
 use Rattle.values.specs.declared.Value.the-variants as Value
 use Rattle.values.proofs.Fields.{takes-none, takes-first}
 use Rattle.values.proofs.Value.{the-type}
-use Rattle.plan.specs.Texts.{firstText, TextFound, TextOf, TextRead}
+use Rattle.plan.specs.Texts.{firstText, TextOf, TextRead}
 use Rattle.plan.specs.Plans.{textBytes}
 use Rattle.plan.specs.declared.text.Text.{Text}
 use Rattle.plan.specs.declared.text.Text.the-variants as Text
@@ -65,12 +64,12 @@ module _ (l : List ℕ) (at : ℕ) where
         within = inside .0;
         short = inside .1;
         found = λ vs known.
-          let t = takes-first l at vs known (meaning l v) next (h .says) in
-          record {
-            rest = t .others;
-            is = t .is ∙ ap (λ (x : Value). meaning l x ∷ t .others) e;
-            list = ap (λ (x : ℕ). values (drop x l)) same-next ∙ t .left;
-          };
+            let t = takes-first l at vs known (meaning l v) next (h .says) in
+            record {
+              rest = t .others;
+              is = t .is ∙ ap (λ (x : Value). meaning l x ∷ t .others) e;
+              list = ap (λ (x : ℕ). values (drop x l)) same-next ∙ t .left;
+            };
       }
 
 -- ---- the bytes of a text

@@ -19,7 +19,7 @@ use Rattle.definition.specs.declared.Op.{Op}
 use Rattle.definition.specs.declared.Op.the-variants as Op
 use Rattle.values.specs.Meaning.{meaning}
 use Rattle.values.specs.declared.Value.{Value}
-use Rattle.plan.specs.Words.{fillOf}
+use Rattle.word.specs.Words.{fillOf}
 use Rattle.plan.specs.declared.item.Plan.{Plan}
 use Rattle.plan.specs.declared.item.Plan.the-variants.{Refused, Skip, Set, Zeros, Number, Text}
 
@@ -63,7 +63,7 @@ ItemPlan l s vs op Skip = wrote s vs op ≡ accepted (place s vs, nothing)
 ItemPlan l s vs op (Set x) = wrote s vs op ≡ accepted (place (set x s) vs, output [] [] 1)
 ItemPlan l s vs op (Zeros n) = Padded s vs op n
 ItemPlan l s vs op (Number p n w next) = Wrote l s vs op p (laid (s .big) n w (fillOf w)) (p + n) next
-ItemPlan l s vs op (Text n start len zeros next) = Wrote l s vs op 0 (textBytes (s .big) l n start len zeros) (n + len + zeros) next × (start + len ≤ length l)
+ItemPlan l s vs op (Text p n start len zeros next) = Wrote l s vs op p (textBytes (s .big) l n start len zeros) (p + (n + len + zeros)) next × (start + len ≤ length l)
 
 -- the plan of an item with the values of l from a field on
 abbrev pub ItemAt : List ℕ → ℕ → State → Op → Plan → Type 0
@@ -73,6 +73,6 @@ ItemAt l at s op r = (vs : List definition.Value) → values (drop at l) ≡ acc
 abbrev pub NumberPlan : State → ℕ → Kind → ℕ → Value → ℕ → Plan → Type 0
 NumberPlan s p k n v next r = (l : List ℕ) (rest : List definition.Value) → padding s n ≡ accepted p → values (drop next l) ≡ accepted rest → ItemPlan l s (meaning l v ∷ rest) (Op.Put (Field.Number k n)) r
 
--- of a text that passed all checks but 9
-abbrev pub TextPlan : State → ℕ → ℕ → ℕ → ℕ → ℕ → Plan → Type 0
-TextPlan s n start len zeros next r = (l : List ℕ) (vs : List definition.Value) (f : Field) → Encoded l s vs f 0 (textBytes (s .big) l n start len zeros) next → start + len ≤ length l → ItemPlan l s vs (Op.Put f) r
+-- of a text after p zeros that passed all checks but 9
+abbrev pub TextPlan : State → ℕ → ℕ → ℕ → ℕ → ℕ → ℕ → Plan → Type 0
+TextPlan s p n start len zeros next r = (l : List ℕ) (vs : List definition.Value) (f : Field) → Encoded l s vs f p (textBytes (s .big) l n start len zeros) next → start + len ≤ length l → ItemPlan l s vs (Op.Put f) r

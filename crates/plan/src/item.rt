@@ -2,10 +2,9 @@
 use crate::text::Text;
 use crate::text::has_zero;
 use crate::text::text_at;
-use crate::word::Word;
-use crate::word::word_of;
 use align::Amount;
 use align::fits;
+use align::natural;
 use align::padding;
 use definition::Field;
 use definition::Kind;
@@ -14,13 +13,17 @@ use definition::Setting;
 use definition::State;
 use values::Value;
 use values::field_at;
+use word::Word;
+use word::word_of;
 ghost use mathlib.Core.Path.{_≡_};
 ghost use mathlib.Core.Bool.{true};
 ghost use mathlib.Core.List.{List};
-ghost use Prim.Native.Nat.{ℕ, _^_, _<_, _≤_};
+ghost use Prim.Native.Nat.{ℕ, _+_, _-_, _^_, _<_, _≤_};
 ghost use lib.Dec.{T, ltb};
 ghost use lib.ListN.{drop};
+ghost use Rattle.definition.specs.Answers.{accepted};
 ghost use Rattle.definition.specs.Lists.{values};
+ghost use Rattle.definition.specs.States as states;
 ghost use Rattle.definition.specs.Values as definition;
 ghost use Rattle.definition.specs.declared.Field.the-variants as fields;
 ghost use Rattle.definition.specs.declared.Op.the-variants as ops;
@@ -28,6 +31,7 @@ ghost use Rattle.definition.proofs.Calls.{Sound};
 ghost use Rattle.definition.proofs.Fields.{validField};
 ghost use Rattle.definition.proofs.Numbers.{validSize};
 ghost use Rattle.definition.proofs.Ops.{validOp};
+ghost use Rattle.align.specs.Amounts.{amountOf};
 ghost use Rattle.values.specs.Meaning.{isAccepted, Proper};
 ghost use Rattle.plan.specs.Plans.{ItemPlan, ItemAt, NumberPlan, TextPlan};
 
@@ -42,9 +46,9 @@ pub enum Plan {
     Zeros(u64),
     // A number: the zeros before it, its size, its word, and where the list's next field starts.
     Number(u64, u64, u64, usize),
-    // A text of the list: the size of the length before it, where it starts, its length, the zeros after it, and where the
-    // list's next field starts.
-    Text(u64, usize, usize, u64, usize),
+    // A text of the list: the zeros before it, the size of the length before it, where it starts, its length, the zeros
+    // after it, and where the list's next field starts.
+    Text(u64, u64, usize, usize, u64, usize),
 }
 
 // x and X: 6, 9.
@@ -81,12 +85,12 @@ fn put_number(s: State, p: u64, kind: Kind, size: u64, v: Value, next: usize) ->
     }
 }
 
-// A number: 6, 11, 12, 13, 9.
-fn number(list: &[u8], at: usize, s: State, kind: Kind, size: u64) -> Plan
-    requires { ⌜ Sound s ⌝ ∗ ⌜ isAccepted (values (drop at (now list))) ≡ true ⌝ ∗ ⌜ T (validSize kind size) ⌝ }
+// A number behind its padding: 11, 12, 13, 9.
+fn number(list: &[u8], at: usize, s: State, padded: Amount, kind: Kind, size: u64) -> Plan
+    requires { ⌜ Sound s ⌝ ∗ ⌜ isAccepted (values (drop at (now list))) ≡ true ⌝ ∗ ⌜ amountOf padded ≡ states.padding s size ⌝ ∗ ⌜ T (validSize kind size) ⌝ }
     ensures { λ r. ⌜ ItemAt (now (list .entry)) at s (ops.Put (fields.Number kind size)) r ⌝ }
 {
-    match padding(s, size) {
+    match padded {
         Amount::Refused(k) => Plan::Refused(k),
         Amount::Bytes(p) => match field_at(list, at) {
             values::Field::Found(v, next) => put_number(s, p, kind, size, v, next),
@@ -95,21 +99,20 @@ fn number(list: &[u8], at: usize, s: State, kind: Kind, size: u64) -> Plan
     }
 }
 
-// A text that passed all checks but 9.
-fn put_text(s: State, size: u64, start: usize, n: usize, zeros: u64, next: usize) -> Plan
-    requires { ⌜ Sound s ⌝ ∗ ⌜ size ≤ 16 ⌝ ∗ ⌜ n ≤ 65535 ⌝ ∗ ⌜ zeros ≤ 1 ⌝ }
-    ensures { λ r. ⌜ TextPlan s size start n zeros next r ⌝ }
+// A text after p zeros that passed all checks but 9.
+fn put_text(s: State, p: u64, size: u64, start: usize, n: usize, zeros: u64, next: usize) -> Plan
+    requires { ⌜ Sound s ⌝ ∗ ⌜ p < 16 ⌝ ∗ ⌜ size + n + zeros ≤ 2 ^ 63 - 1 ⌝ }
+    ensures { λ r. ⌜ TextPlan s p size start n zeros next r ⌝ }
 {
-    if fits(s, size + n as u64 + zeros) {
-        Plan::Text(size, start, n, zeros, next)
-    } else {
-        Plan::Refused(9)
+    if !fits(s, p + (size + n as u64 + zeros)) {
+        return Plan::Refused(9);
     }
+    Plan::Text(p, size, start, n, zeros, next)
 }
 
-// c: 9, 11, 12, 15.
-fn chars(list: &[u8], at: usize, s: State, n: u64) -> Plan
-    requires { ⌜ Sound s ⌝ ∗ ⌜ isAccepted (values (drop at (now list))) ≡ true ⌝ }
+// c after p zeros: 9, 11, 12, 15, 9.
+fn chars_after(list: &[u8], at: usize, s: State, p: u64, n: u64) -> Plan
+    requires { ⌜ Sound s ⌝ ∗ ⌜ isAccepted (values (drop at (now list))) ≡ true ⌝ ∗ ⌜ states.padding s (states.natural (fields.Chars n)) ≡ accepted p ⌝ }
     ensures { λ r. ⌜ ItemAt (now (list .entry)) at s (ops.Put (fields.Chars n)) r ⌝ }
 {
     if !fits(s, n) {
@@ -121,24 +124,47 @@ fn chars(list: &[u8], at: usize, s: State, n: u64) -> Plan
             if n < length as u64 {
                 return Plan::Refused(15);
             }
-            Plan::Text(0, start, length, n - length as u64, next)
+            put_text(s, p, 0, start, length, n - length as u64, next)
         }
     }
 }
 
-// z: 11, 12, 14, 9.
-fn zero_ended(list: &[u8], at: usize, s: State) -> Plan
-    requires { ⌜ Sound s ⌝ ∗ ⌜ isAccepted (values (drop at (now list))) ≡ true ⌝ }
+// c: 6, then the text.
+fn chars(list: &[u8], at: usize, s: State, padded: Amount, n: u64) -> Plan
+    requires { ⌜ Sound s ⌝ ∗ ⌜ isAccepted (values (drop at (now list))) ≡ true ⌝ ∗ ⌜ amountOf padded ≡ states.padding s (states.natural (fields.Chars n)) ⌝ }
+    ensures { λ r. ⌜ ItemAt (now (list .entry)) at s (ops.Put (fields.Chars n)) r ⌝ }
+{
+    match padded {
+        Amount::Refused(k) => Plan::Refused(k),
+        Amount::Bytes(p) => chars_after(list, at, s, p, n),
+    }
+}
+
+// z after p zeros: 11, 12, 14, 9.
+fn zero_ended_after(list: &[u8], at: usize, s: State, p: u64) -> Plan
+    requires { ⌜ Sound s ⌝ ∗ ⌜ isAccepted (values (drop at (now list))) ≡ true ⌝ ∗ ⌜ states.padding s (states.natural fields.ZeroEnded) ≡ accepted p ⌝ }
     ensures { λ r. ⌜ ItemAt (now (list .entry)) at s (ops.Put fields.ZeroEnded) r ⌝ }
 {
     match text_at(list, at) {
         Text::Refused(k) => Plan::Refused(k),
         Text::At(start, n, next) => {
             if has_zero(list, start, n) {
-                return Plan::Refused(14);
+                Plan::Refused(14)
+            } else {
+                put_text(s, p, 0, start, n, 1, next)
             }
-            put_text(s, 0, start, n, 1, next)
         }
+    }
+}
+
+// z: 6, then the text.
+fn zero_ended(list: &[u8], at: usize, s: State, padded: Amount) -> Plan
+    requires { ⌜ Sound s ⌝ ∗ ⌜ isAccepted (values (drop at (now list))) ≡ true ⌝ ∗ ⌜ amountOf padded ≡ states.padding s (states.natural fields.ZeroEnded) ⌝ }
+    ensures { λ r. ⌜ ItemAt (now (list .entry)) at s (ops.Put fields.ZeroEnded) r ⌝ }
+{
+    match padded {
+        Amount::Refused(k) => Plan::Refused(k),
+        Amount::Bytes(p) => zero_ended_after(list, at, s, p),
     }
 }
 
@@ -153,16 +179,16 @@ fn countable(size: u64, n: usize) -> bool
     true
 }
 
-// s: 11, 12, 15, 9.
-fn counted(list: &[u8], at: usize, s: State, size: u64) -> Plan
-    requires { ⌜ Sound s ⌝ ∗ ⌜ isAccepted (values (drop at (now list))) ≡ true ⌝ ∗ ⌜ T (validField (fields.Counted size)) ⌝ }
+// s after p zeros: 11, 12, 15, 9.
+fn counted_after(list: &[u8], at: usize, s: State, p: u64, size: u64) -> Plan
+    requires { ⌜ Sound s ⌝ ∗ ⌜ isAccepted (values (drop at (now list))) ≡ true ⌝ ∗ ⌜ states.padding s (states.natural (fields.Counted size)) ≡ accepted p ⌝ ∗ ⌜ T (validField (fields.Counted size)) ⌝ }
     ensures { λ r. ⌜ ItemAt (now (list .entry)) at s (ops.Put (fields.Counted size)) r ⌝ }
 {
     match text_at(list, at) {
         Text::Refused(k) => Plan::Refused(k),
         Text::At(start, n, next) => {
             if countable(size, n) {
-                put_text(s, size, start, n, 0, next)
+                put_text(s, p, size, start, n, 0, next)
             } else {
                 Plan::Refused(15)
             }
@@ -170,15 +196,27 @@ fn counted(list: &[u8], at: usize, s: State, size: u64) -> Plan
     }
 }
 
+// s: 6, then its length and the text.
+fn counted(list: &[u8], at: usize, s: State, padded: Amount, size: u64) -> Plan
+    requires { ⌜ Sound s ⌝ ∗ ⌜ isAccepted (values (drop at (now list))) ≡ true ⌝ ∗ ⌜ amountOf padded ≡ states.padding s (states.natural (fields.Counted size)) ⌝ ∗ ⌜ T (validField (fields.Counted size)) ⌝ }
+    ensures { λ r. ⌜ ItemAt (now (list .entry)) at s (ops.Put (fields.Counted size)) r ⌝ }
+{
+    match padded {
+        Amount::Refused(k) => Plan::Refused(k),
+        Amount::Bytes(p) => counted_after(list, at, s, p, size),
+    }
+}
+
+// A field. It is told apart before its padding is matched, so that the compiler knows which natural alignment it has.
 fn field(list: &[u8], at: usize, s: State, f: Field) -> Plan
     requires { ⌜ Sound s ⌝ ∗ ⌜ isAccepted (values (drop at (now list))) ≡ true ⌝ ∗ ⌜ T (validField f) ⌝ }
     ensures { λ r. ⌜ ItemAt (now (list .entry)) at s (ops.Put f) r ⌝ }
 {
     match f {
-        Field::Number(kind, size) => number(list, at, s, kind, size),
-        Field::Chars(n) => chars(list, at, s, n),
-        Field::ZeroEnded => zero_ended(list, at, s),
-        Field::Counted(size) => counted(list, at, s, size),
+        Field::Number(kind, size) => number(list, at, s, padding(s, natural(f)), kind, size),
+        Field::Chars(n) => chars(list, at, s, padding(s, natural(f)), n),
+        Field::ZeroEnded => zero_ended(list, at, s, padding(s, natural(f))),
+        Field::Counted(size) => counted(list, at, s, padding(s, natural(f)), size),
     }
 }
 

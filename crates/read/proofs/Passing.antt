@@ -45,7 +45,7 @@ paste-behind x v b n k =
 within : {t : Table} {f d : List ℕ} {w : Checked (Place ℕ × List Value)} {at : ℕ} {s : State} {vs : List Value} → SoFar t f d w at s vs
     → {p : Place ℕ} {all : List Value} → w ≡ accepted (p, all) → length (listOf vs) ≤ length (listOf all)
 within {t} {f} {d} {w} {at} {s} {vs} h {p} {all} e =
-    let a = after-accepted readValue [] _++_ vs (readingValues (placeIn d s) (ops t (drop at f))) (p, all) (sym (h .walk .whole) ∙ e) in
+    let a = after-accepted readValue [] _++_ vs (readingValues (placeIn d s) (ops t (drop at f))) (p, all) (sym (h .walk .is) ∙ e) in
     let q : vs ++ a .0 .1 ≡ all = ap (λ (r : Place ℕ × List Value). r .1) (a .2) in
     omega (arith, ap (λ (l : List Value). length (listOf l)) q, list-append vs (a .0 .1))
 

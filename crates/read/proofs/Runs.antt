@@ -23,18 +23,18 @@ use Rattle.read.specs.Runs.{readAt}
 
 -- of the data d and the format f by the table t, w is the whole run: the values vs were read, and the place is at a state and at an item
 pub record SoFar (t : Table) (f d : List ℕ) (w : Checked (Place ℕ × List Value)) (at : ℕ) (s : State) (vs : List Value) : Type 0 where
-  pub walk : Walk.SoFar readValue [] _++_ t f w at (placeIn d s) vs
+  pub walk : Walk.Walked readValue [] _++_ t w f at (placeIn d s) vs
   pub stands : Stands d s
 
 pub from-start : (t : Table) (f d : List ℕ) (s : State) (at : ℕ) → at ≡ 0 → Stands d s → SoFar t f d (readAt t f d s) at s []
-from-start t f d s at e h = record { walk = Walk.from-start readValue [] _++_ (λ vs. refl) append-nil append-assoc t f (placeIn d s) at e; stands = h }
+from-start t f d s at e h = record { walk = Walk.walk-none readValue [] _++_ (λ vs. refl) append-nil append-assoc t f at (placeIn d s) e; stands = h }
 
 module _ {t : Table} {f d : List ℕ} {w : Checked (Place ℕ × List Value)} {at : ℕ} {s : State} {vs : List Value} (h : SoFar t f d w at s vs) where
   pub run-end : nextAt t at (drop at f) ≡ accepted none → w ≡ accepted (placeIn d s, vs)
-  run-end q = Walk.run-end readValue [] _++_ (λ vs. refl) append-nil append-assoc t f (h .walk) q
+  run-end q = Walk.walk-end readValue [] _++_ (λ vs. refl) append-nil append-assoc (h .walk) q
 
   pub run-refusal : {k : ℕ} → nextAt t at (drop at f) ≡ refused k → w ≡ refused k
-  run-refusal {k} q = Walk.run-refusal readValue [] _++_ (λ vs. refl) append-nil append-assoc t f (h .walk) k q
+  run-refusal q = Walk.walk-refusal readValue [] _++_ (λ vs. refl) append-nil append-assoc (h .walk) q
 
   -- the item at the place does o, the next one stands at p, and r is what the item reads
   module _ {o : Op} {p : ℕ} (q : nextAt t at (drop at f) ≡ accepted (some (o, p))) {r : Fetched} (g : Fetches d s o r) where
@@ -43,10 +43,10 @@ module _ {t : Table} {f d : List ℕ} {w : Checked (Place ℕ × List Value)} {a
     told e = sym (g .says) ∙ ap (fetchedIs d s) e
 
     pub item-refused : {k : ℕ} → r ≡ Fetched.Refused k → w ≡ refused k
-    item-refused {k} e = Walk.item-refused readValue [] _++_ (λ vs. refl) append-nil append-assoc t f (h .walk) q k (told e)
+    item-refused e = Walk.walk-refused readValue [] _++_ (λ vs. refl) append-nil append-assoc (h .walk) q (told e)
 
     on : {x : State} {a : List Value} → Stands d x → readValue (placeIn d s) o ≡ accepted (placeIn d x, a) → SoFar t f d w p x (vs ++ a)
-    on {x} {a} i e = record { walk = Walk.item-on readValue [] _++_ (λ vs. refl) append-nil append-assoc t f (h .walk) q (placeIn d x) a e; stands = i }
+    on i e = record { walk = Walk.walk-on readValue [] _++_ (λ vs. refl) append-nil append-assoc (h .walk) q e; stands = i }
 
     pub item-set : {x : State} → r ≡ Fetched.Set x → SoFar t f d w p x vs
     item-set {x} e = subst (SoFar t f d w p x) (append-nil vs) (on (subst (FetchedStands d) e (g .stands)) (told e))

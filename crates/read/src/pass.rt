@@ -1,7 +1,7 @@
 // A pass over a format: every check, the length of the value list, and where it is asked for, the list.
 use align::at_offset;
 use align::offset_in;
-use align::same;
+use align::parts;
 use definition::Offset;
 use definition::State;
 use fetch::Fetched;
@@ -90,7 +90,7 @@ pub fn pass(
             Next::Item(i, d) => match read_op(data, s, i.op()) {
                 Fetched::Refused(k) => return Total::Refused(k),
                 Fetched::Set(t) => {
-                    s = same(t);
+                    s = parts(t);
                     c = d;
                 }
                 Fetched::Read(r, next) => {

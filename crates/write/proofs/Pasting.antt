@@ -2,11 +2,11 @@
 use Prim.Native.Nat.{ℕ, _+_, _≤_}
 use native.Mathlib.Omega.{arith}
 use native.Mathlib.Nat.{add-assoc, le-of-eq}
-use mathlib.Core.Path.{_≡_, sym, ap, _∙_, subst}
+use mathlib.Core.Path.{_≡_, sym, ap, _∙_}
 use mathlib.Core.Bool.{Bool}
 use mathlib.Core.List.{List, _++_, append-assoc}
 use lib.ListN.{length, take, drop, replicate, length-append, length-replicate}
-use lib.Seq.{paste, take-at, drop-at, drop-drop, take-all}
+use lib.Seq.{paste, length-paste, take-at, drop-at, drop-drop, take-all}
 use Rattle.definition.specs.Bytes.{laid}
 use Rattle.coder.proofs.Pasting.{paste-on}
 use Rattle.definition.proofs.Bytes.{length-laid}
@@ -24,7 +24,7 @@ paste-front d x n e y m f =
 pasted : (d e f a b : List ℕ) (at m n : ℕ) → length a ≡ m → length b ≡ n → at + m + n ≤ length d → e ≡ paste d at a m → f ≡ paste e (at + m) b n → f ≡ paste d at (a ++ b) (m + n)
 pasted d e f a b at m n la lb h p q = q ∙ ap (λ (x : List ℕ). paste x (at + m) b n) p ∙ paste-on d a b at m n la lb (omega arith)
 
-pub pasted-three : (d e f g x y z : List ℕ) (at n m k : ℕ) → length x ≡ n → length y ≡ m → length z ≡ k → at + (n + m + k) ≤ length d
+pasted-three : (d e f g x y z : List ℕ) (at n m k : ℕ) → length x ≡ n → length y ≡ m → length z ≡ k → at + (n + m + k) ≤ length d
     → e ≡ paste d at x n → f ≡ paste e (at + n) y m → g ≡ paste f (at + n + m) z k → g ≡ paste d at (x ++ (y ++ z)) (n + m + k)
 pasted-three d e f g x y z at n m k lx ly lz h p q r =
     let two : f ≡ paste d at (x ++ y) (n + m) = pasted d e f x y at n m lx ly (omega arith) p q in
@@ -33,3 +33,10 @@ pasted-three d e f g x y z at n m k lx ly lz h p q r =
 
 pub padded-store : (d e g : List ℕ) (o : Bool) (at n m w b f : ℕ) → b ≡ f → at + (n + m) ≤ length d → e ≡ paste d at (replicate n 0) n → g ≡ paste e (at + n) (laid o m w b) m → g ≡ paste d at (replicate n 0 ++ laid o m w f) (n + m)
 padded-store d e g o at n m w b f i h p q = pasted d e g (replicate n 0) (laid o m w b) at n m (length-replicate n 0) (length-laid o m w b) (omega arith) p q ∙ ap (λ (x : ℕ). paste d at (replicate n 0 ++ laid o m w x) (n + m)) i
+
+pub padded-three : (d c e f g x y z : List ℕ) (at b n m k : ℕ) → length x ≡ n → length y ≡ m → length z ≡ k → at + (b + (n + m + k)) ≤ length d → c ≡ paste d at (replicate b 0) b
+    → e ≡ paste c (at + b) x n → f ≡ paste e (at + b + n) y m → g ≡ paste f (at + b + n + m) z k → g ≡ paste d at (replicate b 0 ++ (x ++ (y ++ z))) (b + (n + m + k))
+padded-three d c e f g x y z at b n m k lx ly lz h p q r t =
+    let long : length c ≡ length d = ap length p ∙ length-paste d at (replicate b 0) b (omega arith) (omega (arith, length-replicate {A = ℕ} b 0)) in
+    let whole : length (x ++ (y ++ z)) ≡ n + m + k = omega (arith, length-append x (y ++ z), length-append y z) in
+    pasted d c g (replicate b 0) (x ++ (y ++ z)) at b (n + m + k) (length-replicate b 0) whole (omega arith) p (pasted-three c e f g x y z (at + b) n m k lx ly lz (omega arith) q r t)

@@ -1,21 +1,20 @@
 -- How far a pass over a format has come, and what it has put.
 use Prim.Native.Nat.{ℕ, _+_, _-_, _≤_}
 use mathlib.Core.Path.{_≡_}
-use mathlib.Core.Bool.{Bool, true, cond}
-use mathlib.Core.List.{List, [], _++_}
+use mathlib.Core.Bool.{true}
+use mathlib.Core.List.{List, []}
 use lib.ListN.{length, drop}
 use lib.Seq.{paste}
-use Rattle.definition.specs.Answers.{Checked, refused, accepted, _>>=_, after}
+use Rattle.definition.specs.Answers.{Checked, refused, accepted, _>>=_}
 use Rattle.definition.specs.Items.{items}
 use Rattle.definition.specs.Values.{Value}
 use Rattle.definition.specs.Lists.{values}
 use Rattle.definition.specs.States.{further}
-use Rattle.definition.specs.Writing.{Output, nothing, _⊕_, Place, place, writeOp, writeItem, writing, write}
+use Rattle.definition.specs.Writing.{Output, Place, place, writeOp}
 use Rattle.definition.specs.Calls.{recordOf, continuedOf}
 use Rattle.definition.specs.declared.Continued.{Continued}
 use Rattle.definition.specs.declared.State.{State}
 use Rattle.definition.specs.declared.Op.{Op}
-use Rattle.definition.proofs.Calls.{Sound}
 use Rattle.values.specs.Meaning.{isAccepted}
 use Rattle.write.specs.declared.pass.Progress.{Progress}
 use Rattle.write.specs.declared.pass.Step.{Step}
@@ -73,19 +72,3 @@ abbrev pub Stepped : List ℕ → Progress → Op → Step → Type 0
 Stepped l p op (Refused k) = written l p op ≡ refused k
 Stepped l p op Skip = Moved l p op p
 Stepped l p op (To q) = Moved l p op q
-
--- ---- the items so far
-
--- From the state s, writing the format f with the list l has come to the place c of f, and to p: what is written is `out`, and
--- with `put` the buffer, which was d, is b.
-pub record Walked (f l : List ℕ) (s : State) (put : Bool) (d : List ℕ) (c : ℕ) (p : Progress) (b : List ℕ) : Type 0 where
-  pub out : Output
-  pub known : isAccepted (values (drop (p .at) l)) ≡ true
-  pub sound : Sound (p .state)
-  pub run : write s (valuesOf l) f ≡ after writeItem nothing _⊕_ out (writing (place (p .state) (valuesOf (drop (p .at) l))) (items (drop c f)))
-  pub length-is : p .state .length ≡ s .length + length (out .cells)
-  pub used : p .used ≡ length (out .took)
-  pub items-run : p .items ≡ out .items
-  pub few : (p .used ≤ c) × (p .items ≤ c)
-  pub inside : c ≤ length f
-  pub buffer : b ≡ cond put (recordOf out ++ drop (length (out .cells)) d) d

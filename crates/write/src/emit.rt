@@ -10,7 +10,7 @@ ghost use lib.ListN.{length, replicate};
 ghost use lib.Seq.{paste};
 ghost use Rattle.definition.specs.Bytes.{laid};
 ghost use Rattle.plan.specs.Plans.{textBytes};
-ghost use Rattle.plan.specs.Words.{fillOf};
+ghost use Rattle.word.specs.Words.{fillOf};
 
 // The byte above a word's eight.
 fn fill(word: u64) -> u8
@@ -50,11 +50,12 @@ pub fn emit_number(
     put_integer(out, at + zeros, size, big, word, fill(word));
 }
 
-// A text of the list, with its length before it in size bytes, and zeros after it.
+// Zeros, and a text of the list after them, with its length before it in size bytes, and zeros after it.
 pub fn emit_text(
     put: bool,
     out: &mut [u8],
     at: usize,
+    pads: usize,
     big: bool,
     list: &[u8],
     size: usize,
@@ -62,13 +63,14 @@ pub fn emit_text(
     n: usize,
     zeros: usize,
 )
-    requires { ⌜ (put ≡ true → at + (size + n + zeros) ≤ length (now out)) ⌝ ∗ ⌜ start + n ≤ length (now list) ⌝ }
-    ensures { λ _. ⌜ now (out .exit) ≡ cond put (paste (now (out .entry)) at (textBytes big (now (list .entry)) size start n zeros) (size + n + zeros)) (now (out .entry)) ⌝ }
+    requires { ⌜ (put ≡ true → at + (pads + (size + n + zeros)) ≤ length (now out)) ⌝ ∗ ⌜ start + n ≤ length (now list) ⌝ }
+    ensures { λ _. ⌜ now (out .exit) ≡ cond put (paste (now (out .entry)) at (replicate pads 0 ++ textBytes big (now (list .entry)) size start n zeros) (pads + (size + n + zeros))) (now (out .entry)) ⌝ }
 {
     if !put {
         return;
     }
-    put_integer(out, at, size, big, n as u64, 0);
-    put_copy(out, at + size, list, start, n);
-    put_zeros(out, at + size + n, zeros);
+    put_zeros(out, at, pads);
+    put_integer(out, at + pads, size, big, n as u64, 0);
+    put_copy(out, at + pads + size, list, start, n);
+    put_zeros(out, at + pads + size + n, zeros);
 }

@@ -4,6 +4,7 @@ mod pass;
 
 use crate::pass::pass;
 use align::is_sound;
+use align::start;
 use definition::Continued;
 use definition::State;
 use format::options::OPTIONS;
@@ -50,12 +51,7 @@ pub enum Packed {
 pub fn string_pack(format: &[u8], list: &[u8], out: &mut [u8]) -> Packed
     ensures { λ r. ⌜ packedIs r (now (out .exit)) ≡ stringPack (now (format .entry)) (now (list .entry)) (now (out .entry)) ⌝ }
 {
-    let start = State {
-        big: false,
-        limit: 1,
-        length: 0,
-    };
-    match pack_continued(start, format, list, out) {
+    match pack_continued(start(), format, list, out) {
         Total::Refused(k) => Packed::Refused(k),
         Total::Of(c) => Packed::Length(c.written),
     }

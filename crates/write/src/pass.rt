@@ -3,6 +3,7 @@ use crate::Total;
 use crate::emit::emit_number;
 use crate::emit::emit_text;
 use crate::emit::emit_zeros;
+use align::further;
 use align::set;
 use definition::Continued;
 use definition::Op;
@@ -17,7 +18,6 @@ ghost use Prim.Native.Nat.{_+_, _-_, _^_, _<_, _≤_};
 ghost use lib.Dec.{T};
 ghost use lib.ListN.{length, drop};
 ghost use Rattle.definition.specs.Lists.{values};
-ghost use Rattle.definition.specs.States as states;
 ghost use Rattle.definition.specs.Writing as writing;
 ghost use Rattle.definition.proofs.Calls.{Sound};
 ghost use Rattle.definition.proofs.Ops.{validOp};
@@ -41,16 +41,6 @@ pub enum Step {
     To(Progress),
 }
 
-// The state n bytes on.
-fn further(s: State, n: u64) -> State
-    requires { ⌜ s .length + n ≤ 2 ^ 63 - 1 ⌝ }
-    ensures { λ r. ⌜ r ≡ states.further s n ⌝ }
-{
-    State {
-        big: s.big,
-        limit: s.limit,
-        length: s.length + n,
-    }
 }
 
 // Past an item without a value, to a state.
@@ -99,9 +89,20 @@ fn advance(list: &[u8], p: Progress, op: Op, out: &mut [u8], w: usize, put: bool
             emit_number(put, out, w, n as usize, s.big, size as usize, word);
             Step::To(past_value(p, n + size, next))
         }
-        Plan::Text(size, start, n, zeros, next) => {
-            emit_text(put, out, w, s.big, list, size as usize, start, n, zeros as usize);
-            Step::To(past_value(p, size + n as u64 + zeros, next))
+        Plan::Text(n, size, start, length, zeros, next) => {
+            emit_text(
+                put,
+                out,
+                w,
+                n as usize,
+                s.big,
+                list,
+                size as usize,
+                start,
+                length,
+                zeros as usize,
+            );
+            Step::To(past_value(p, n + (size + length as u64 + zeros), next))
         }
     }
 }

@@ -1,45 +1,62 @@
--- The invariant: the run from here, with the state, is the whole run. The measure is what is left of the format.
+-- The invariant: the walk from the start state has come to the cursor's place and to the state. The measure is what is left of the format.
 use Prim.Native.Nat.{_-_}
-use mathlib.Core.Path.{_≡_, sym, ap, _∙_}
+use mathlib.Core.Path.{_≡_, sym, ap, _∙_, subst}
+use mathlib.Core.Option.{some}
 use native.Mathlib.Omega.{arith}
-use denote.Ref.{now}
 use lib.ListN.{length, drop}
+use Rattle.definition.specs.Answers.{accepted}
 use Rattle.definition.specs.Bound.{boundOp}
-use Rattle.definition.specs.Items.{items}
 use Rattle.definition.specs.States.{start}
+use Rattle.definition.specs.declared.Op.{Op}
 use Rattle.align.specs.Amounts.{stateOf}
-use Rattle.format.specs.Steps.{nextOf}
-use Rattle.measure.proofs.Runs.{runs, run-end, run-refusal, run-item, ahead}
+use Rattle.format.specs.Steps.{nextAt, nextOf}
+use Rattle.measure.proofs.Runs.{walks, Ran, run-none, run-end, run-refusal, run-refused, run-on, ahead}
 use Rattle.measure.proofs.Sizes.{bound-is}
 use Rattle.measure.proofs.bound.bound_by.Statement.{statement}
 use Rattle.measure.proofs.bound.bound_by.Tie as tie
 
 abbrev Inv-loop : tie.InvT-loop
-Inv-loop table format data-length c₀ s₀ c s = runs (boundOp data-length) s (items (drop (c .at) format)) ≡ runs (boundOp data-length) start (items format)
+Inv-loop table format data-length c₀ s₀ c s = Ran (boundOp data-length) (walks (boundOp data-length) start format) format (c .at) s
 
 abbrev μ-loop : tie.MeasureT-loop
 μ-loop table format data-length c₀ s₀ c s = length format - c .at
 
+-- the item that the cursor read
+item : (c : tie.After-op Inv-loop μ-loop) → let l = c .before .before .before .before .before in
+    nextAt (l .loop .c .at) (drop (l .loop .c .at) (l .before .before .before .before .args .format .now)) ≡ accepted (some (c .op .result, c .before .before .i .given .0 .1 .0 .at))
+item c =
+    sym (c .before .before .before .before .next .ensures) ∙ ap nextOf (c .before .before .i .given .1)
+    ∙ ap (λ (o : Op). accepted (some (o, c .before .before .i .given .0 .1 .0 .at))) (sym (c .op .ensures))
+
 new-requires : tie.Need-new-requires Inv-loop μ-loop
 new-requires c κs = tt
 
+start-requires : tie.Need-start-requires Inv-loop μ-loop
+start-requires c κs = tt
+
 loop-holds : tie.Need-loop-holds Inv-loop μ-loop
-loop-holds c = rw (c .new .ensures)
+loop-holds c =
+    let a = c .before .before .before .args in
+    subst (Ran (boundOp (a .data-length)) _ (a .format .now) (c .before .new .result .at)) (sym (c .start .ensures)) (run-none (boundOp (a .data-length)) start (a .format .now) _ (c .before .new .ensures))
 
 next-requires : tie.Need-next-requires Inv-loop μ-loop
-next-requires c κs = c .before .before .before .pre
+next-requires c κs = c .before .before .before .before .pre
 
 enum-told : tie.Need-enum-told Inv-loop μ-loop
 enum-told c = c .match .keys1
 
 returns : tie.Need-returns Inv-loop μ-loop
-returns c = bound-is (now (c .before .before .before .before .before .before .args .format)) (c .before .before .before .before .before .before .args .data-length) _ (run-end (boundOp (c .before .before .before .before .before .before .args .data-length)) _ (now (c .before .before .before .before .before .before .args .format)) (c .before .before .before .loop .c .at) (c .before .before .before .loop .s) (c .before .before .before .loop .inv) (sym (c .before .before .next .ensures) ∙ ap nextOf (c .enum-told .given .1)))
+returns c =
+    let l = c .before .before .before in
+    bound-is _ _ (run-end (boundOp (l .before .before .before .before .args .data-length)) (l .loop .inv) (sym (c .before .before .next .ensures) ∙ ap nextOf (c .enum-told .given .1)))
 
 enum-known-k : tie.Need-enum-known-k Inv-loop μ-loop
 enum-known-k c = c .match .keys2
 
 returns-2 : tie.Need-returns-2 Inv-loop μ-loop
-returns-2 c = bound-is (now (c .before .before .before .before .before .before .before .args .format)) (c .before .before .before .before .before .before .before .args .data-length) _ (run-refusal (boundOp (c .before .before .before .before .before .before .before .args .data-length)) _ (now (c .before .before .before .before .before .before .before .args .format)) (c .before .before .before .before .loop .c .at) (c .before .before .before .before .loop .s) (c .before .before .before .before .loop .inv) _ (sym (c .before .before .before .next .ensures) ∙ ap nextOf (c .before .k .given .1)))
+returns-2 c =
+    let l = c .before .before .before .before in
+    bound-is _ _ (run-refusal (boundOp (l .before .before .before .before .args .data-length)) (l .loop .inv) (sym (c .before .before .before .next .ensures) ∙ ap nextOf (c .before .k .given .1)))
 
 enum-known-i : tie.Need-enum-known-i Inv-loop μ-loop
 enum-known-i c = c .match .keys3
@@ -54,16 +71,29 @@ enum-known-k-2 : tie.Need-enum-known-k-2 Inv-loop μ-loop
 enum-known-k-2 c = c .match2 .keys1
 
 returns-3 : tie.Need-returns-3 Inv-loop μ-loop
-returns-3 c = bound-is (now (c .before .before .before .before .before .before .before .before .before .before .before .before .args .format)) (c .before .before .before .before .before .before .before .before .before .before .before .before .args .data-length) _ (run-item (boundOp (c .before .before .before .before .before .before .before .before .before .before .before .before .args .data-length)) _ (now (c .before .before .before .before .before .before .before .before .before .before .before .before .args .format)) (c .before .before .before .before .before .before .before .before .before .loop .c .at) (c .before .before .before .before .before .before .before .before .before .loop .s) (c .before .before .before .before .before .before .before .before .before .loop .inv) _ _ (sym (c .before .before .before .before .before .before .before .before .next .ensures) ∙ ap nextOf (c .before .before .before .before .before .before .i .given .1)) _ (ap ((boundOp (c .before .before .before .before .before .before .before .before .before .before .before .before .args .data-length)) (c .before .before .before .before .before .before .before .before .before .loop .s)) (sym (c .before .before .before .before .op .ensures)) ∙ sym (c .before .before .before .bound-op .ensures) ∙ ap stateOf (c .before .k2 .given .1)))
+returns-3 c =
+    let o = c .before .before .before .before in
+    let l = o .before .before .before .before .before in
+    bound-is _ _ (run-refused (boundOp (l .before .before .before .before .args .data-length)) (l .loop .inv) (item o) (sym (c .before .before .before .bound-op .ensures) ∙ ap stateOf (c .before .k2 .given .1)))
 
 enum-known-t : tie.Need-enum-known-t Inv-loop μ-loop
 enum-known-t c = c .match2 .keys2
 
+parts-requires : tie.Need-parts-requires Inv-loop μ-loop
+parts-requires c κs = tt
+
 loop-less : tie.Need-loop-less Inv-loop μ-loop
-loop-less c = let h = ahead (now (c .before .before .before .before .before .before .before .before .before .before .before .before .args .format)) (c .before .before .before .before .before .before .before .before .before .loop .c .at) _ _ (sym (c .before .before .before .before .before .before .before .before .next .ensures) ∙ ap nextOf (c .before .before .before .before .before .before .i .given .1)) in omega arith
+loop-less c =
+    let o = c .before .before .before .before .before in
+    let l = o .before .before .before .before .before in
+    let h = ahead (l .before .before .before .before .args .format .now) (l .loop .c .at) (item o) in
+    omega arith
 
 loop-again : tie.Need-loop-again Inv-loop μ-loop
-loop-again c = sym (run-item (boundOp (c .before .before .before .before .before .before .before .before .before .before .before .before .args .data-length)) _ (now (c .before .before .before .before .before .before .before .before .before .before .before .before .args .format)) (c .before .before .before .before .before .before .before .before .before .loop .c .at) (c .before .before .before .before .before .before .before .before .before .loop .s) (c .before .before .before .before .before .before .before .before .before .loop .inv) _ _ (sym (c .before .before .before .before .before .before .before .before .next .ensures) ∙ ap nextOf (c .before .before .before .before .before .before .i .given .1)) _ (ap ((boundOp (c .before .before .before .before .before .before .before .before .before .before .before .before .args .data-length)) (c .before .before .before .before .before .before .before .before .before .loop .s)) (sym (c .before .before .before .before .op .ensures)) ∙ sym (c .before .before .before .bound-op .ensures) ∙ ap stateOf (c .before .t .given .1)))
+loop-again c =
+    let o = c .before .before .before .before .before in
+    let l = o .before .before .before .before .before in
+    run-on (boundOp (l .before .before .before .before .args .data-length)) (l .loop .inv) (item o) (sym (c .before .before .before .before .bound-op .ensures) ∙ ap stateOf (c .before .before .t .given .1) ∙ ap accepted (sym (c .parts .ensures)))
 
 pub bound-by-spec : {M : Type 1} → statement M
 bound-by-spec =
@@ -72,6 +102,7 @@ bound-by-spec =
     Inv-loop
     μ-loop
     new-requires
+    start-requires
     loop-holds
     next-requires
     enum-told
@@ -84,5 +115,6 @@ bound-by-spec =
     enum-known-k-2
     returns-3
     enum-known-t
+    parts-requires
     loop-less
     loop-again)

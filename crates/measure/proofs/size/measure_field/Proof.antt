@@ -1,49 +1,41 @@
--- Each field is one clause of the definition.
+-- The size, or 10; then the alignment and as many bytes.
+use mathlib.Core.Path.{sym, ap, _∙_}
+use Rattle.align.specs.Amounts.{amountOf}
 use borrow.Author.Needs.{needs}
 use Rattle.measure.proofs.size.measure_field.Statement.{statement}
 use Rattle.measure.proofs.size.measure_field.Tie as tie
 
-enum-known-f : tie.Need-enum-known-f
-enum-known-f c = search needs
+size-of-requires : tie.Need-size-of-requires
+size-of-requires c κs = search needs
+
+enum-known-k : tie.Need-enum-known-k
+enum-known-k c = search needs
+
+enum-known-n : tie.Need-enum-known-n
+enum-known-n c = search needs
+
+natural-requires : tie.Need-natural-requires
+natural-requires c κs = search needs
 
 measure-pad-requires : tie.Need-measure-pad-requires
 measure-pad-requires c κs = search needs
 
-enum-known-f-2 : tie.Need-enum-known-f-2
-enum-known-f-2 c = search needs
-
-measure-pad-requires-2 : tie.Need-measure-pad-requires-2
-measure-pad-requires-2 c κs = search needs
-
-enum-told : tie.Need-enum-told
-enum-told c = search needs
-
-enum-told-2 : tie.Need-enum-told-2
-enum-told-2 c = search needs
-
 returns : tie.Need-returns
-returns c = rw (c .before .before .f .given .1) (c .measure-pad .ensures)
+returns c = rw (sym (c .before .before .before .size-of .ensures) ∙ ap amountOf (c .before .k .given .1))
 
 returns-2 : tie.Need-returns-2
-returns-2 c = rw (c .before .before .f2 .given .1) (c .measure-pad2 .ensures)
-
-returns-3 : tie.Need-returns-3
-returns-3 c = search needs
-
-returns-4 : tie.Need-returns-4
-returns-4 c = search needs
+returns-2 c =
+    let x = c .before .before .before in
+    rw (sym (x .before .before .size-of .ensures) ∙ ap amountOf (x .n .given .1), ← c .before .natural .ensures) (c .measure-pad .ensures)
 
 pub measure-field-spec : {M : Type 1} → statement M
 measure-field-spec =
     tie.close
     (tie.spec
-    enum-known-f
+    size-of-requires
+    enum-known-k
+    enum-known-n
+    natural-requires
     measure-pad-requires
-    enum-known-f-2
-    measure-pad-requires-2
-    enum-told
-    enum-told-2
     returns
-    returns-2
-    returns-3
-    returns-4)
+    returns-2)

@@ -38,10 +38,16 @@ returns-2 : tie.Need-returns-2
 returns-2 c = pad-refused _ _ _ _ (sym (c .before .before .before .padding .ensures) ∙ ap amountOf (c .before .k .given .1))
 
 returns-3 : tie.Need-returns-3
-returns-3 c = pad-some _ _ _ _ (sym (c .before .before .before .before .before .before .before .before .padding .ensures) ∙ ap amountOf (c .before .before .before .before .before .before .p .given .1)) (refused (c .before .k2 .given .0 .0)) (sym (c .before .before .before .longer2 .ensures) ∙ ap stateOf (c .before .k2 .given .1))
+returns-3 c =
+    let x = c .before .before .before .before .before .before in
+    let e = sym (x .before .before .padding .ensures) ∙ ap amountOf (x .p .given .1) in
+    pad-some _ _ _ _ e (refused (c .before .k2 .given .0 .0)) (sym (c .before .before .before .longer2 .ensures) ∙ ap stateOf (c .before .k2 .given .1))
 
 returns-4 : tie.Need-returns-4
-returns-4 c = c .longer3 .ensures ∙ pad-some _ _ _ _ (sym (c .before .before .before .before .before .before .before .before .before .padding .ensures) ∙ ap amountOf (c .before .before .before .before .before .before .before .p .given .1)) (accepted (c .before .before .t .given .0 .0)) (sym (c .before .before .before .before .longer2 .ensures) ∙ ap stateOf (c .before .before .t .given .1))
+returns-4 c =
+    let x = c .before .before .before .before .before .before .before in
+    let e = sym (x .before .before .padding .ensures) ∙ ap amountOf (x .p .given .1) in
+    c .longer3 .ensures ∙ pad-some _ _ _ _ e (accepted (c .before .before .t .given .0 .0)) (sym (c .before .before .before .before .longer2 .ensures) ∙ ap stateOf (c .before .before .t .given .1))
 
 pub measure-pad-spec : {M : Type 1} → statement M
 measure-pad-spec =

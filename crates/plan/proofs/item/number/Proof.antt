@@ -1,20 +1,17 @@
--- The zeros, then what stands in the list.
-use mathlib.Core.Path.{_≡_, refl, sym, ap, _∙_}
-use denote.Ref.{now}
+-- 6, what stands in the list, and what is put for it.
+use mathlib.Core.Path.{sym, ap, _∙_}
+use Rattle.definition.specs.declared.Field.the-variants as Field
 use Rattle.align.specs.Amounts.{amountOf}
-use Rattle.plan.proofs.Plans.{padding-lt, number-unaligned, number-found, number-none}
+use Rattle.plan.proofs.Plans.{padding-lt, unaligned, number-none, number-found}
 use borrow.Author.Needs.{needs}
 use Rattle.plan.proofs.item.number.Statement.{statement}
 use Rattle.plan.proofs.item.number.Tie as tie
 
-padding-requires : tie.Need-padding-requires
-padding-requires c κs = search needs
+enum-known-padded : tie.Need-enum-known-padded
+enum-known-padded c = search needs
 
-enum-known-k : tie.Need-enum-known-k
-enum-known-k c = search needs
-
-enum-known-p : tie.Need-enum-known-p
-enum-known-p c = search needs
+enum-known-padded-2 : tie.Need-enum-known-padded-2
+enum-known-padded-2 c = search needs
 
 field-at-requires : tie.Need-field-at-requires
 field-at-requires c κs = search needs
@@ -23,27 +20,45 @@ enum-known-v : tie.Need-enum-known-v
 enum-known-v c = search needs
 
 put-number-requires : tie.Need-put-number-requires
-put-number-requires c κs = let h = rw (c .before .v .given .1) at (c .before .before .before .field-at .ensures) in (c .before .before .before .before .before .before .before .before .before .pre .0, (padding-lt (c .before .before .before .before .before .before .before .before .before .args .s) _ _ (sym (c .before .before .before .before .before .before .before .padding .ensures) ∙ ap amountOf (c .before .before .before .before .before .p .given .1)), (h .sound .proper, c .before .before .before .before .before .before .before .before .before .pre .1 .1)))
+put-number-requires c κs =
+    let f = c .before .before .before in
+    let x = f .before .before in
+    let s = x .before .before .before in
+    let h = rw (c .before .v .given .1) at (f .field-at .ensures) in
+    (s .pre .0, (padding-lt (s .args .s) _ _ (sym (s .pre .1 .1 .0) ∙ ap amountOf (x .padded2 .given .1)), (h .sound .proper, s .pre .1 .1 .1)))
 
 enum-told : tie.Need-enum-told
 enum-told c = search needs
 
 returns : tie.Need-returns
-returns c = number-unaligned (now (c .before .before .before .before .before .args .list)) (c .before .before .before .before .before .args .at) (c .before .before .before .before .before .args .s) (c .before .before .before .before .before .args .kind) (c .before .before .before .before .before .args .size) _ (sym (c .before .before .before .padding .ensures) ∙ ap amountOf (c .before .k .given .1))
+returns c =
+    let x = c .before in
+    let s = x .before .before .before in
+    let a = s .args in
+    unaligned (a .s) (Field.Number (a .kind) (a .size)) (a .list .now) (a .at) (sym (s .pre .1 .1 .0) ∙ ap amountOf (x .padded .given .1))
 
 returns-2 : tie.Need-returns-2
-returns-2 c = number-found (now (c .before .before .before .before .before .before .before .before .before .before .args .list)) (c .before .before .before .before .before .before .before .before .before .before .args .at) (c .before .before .before .before .before .before .before .before .before .before .args .s) (c .before .before .before .before .before .before .before .before .before .before .args .kind) (c .before .before .before .before .before .before .before .before .before .before .args .size) _ (sym (c .before .before .before .before .before .before .before .before .padding .ensures) ∙ ap amountOf (c .before .before .before .before .before .before .p .given .1)) _ _ (c .put-number .result) (rw (c .before .before .v .given .1) at (c .before .before .before .before .field-at .ensures)) (c .put-number .ensures)
+returns-2 c =
+    let f = c .before .before .before .before in
+    let x = f .before .before in
+    let s = x .before .before .before in
+    let a = s .args in
+    number-found (a .list .now) (a .at) (a .s) (a .kind) (a .size) _ (sym (s .pre .1 .1 .0) ∙ ap amountOf (x .padded2 .given .1)) _ _ (c .put-number .result) (rw (c .before .before .v .given .1) at (f .field-at .ensures)) (c .put-number .ensures)
 
 returns-3 : tie.Need-returns-3
-returns-3 c = number-none (now (c .before .before .before .before .before .before .before .before .args .list)) (c .before .before .before .before .before .before .before .before .args .at) (c .before .before .before .before .before .before .before .before .args .s) (c .before .before .before .before .before .before .before .before .args .kind) (c .before .before .before .before .before .before .before .before .args .size) _ (sym (c .before .before .before .before .before .before .padding .ensures) ∙ ap amountOf (c .before .before .before .before .p .given .1)) (rw (c .enum-told .given .1) at (c .before .before .field-at .ensures))
+returns-3 c =
+    let f = c .before .before in
+    let x = f .before .before in
+    let s = x .before .before .before in
+    let a = s .args in
+    number-none (a .list .now) (a .at) (a .s) (a .kind) (a .size) _ (sym (s .pre .1 .1 .0) ∙ ap amountOf (x .padded2 .given .1)) (rw (c .enum-told .given .1) at (f .field-at .ensures))
 
 pub number-spec : {M : Type 1} → statement M
 number-spec =
     tie.close
     (tie.spec
-    padding-requires
-    enum-known-k
-    enum-known-p
+    enum-known-padded
+    enum-known-padded-2
     field-at-requires
     enum-known-v
     put-number-requires

@@ -1,5 +1,5 @@
 -- Alignment, then the length.
-use mathlib.Core.Path.{_≡_, refl, sym, ap, _∙_}
+use mathlib.Core.Path.{sym, ap, _∙_}
 use native.Mathlib.Omega.{arith}
 use Rattle.align.specs.Amounts.{amountOf}
 use Rattle.plan.proofs.Plans.{padding-lt, sound-length, pad-unaligned, pad-zeros, pad-long}
@@ -20,19 +20,25 @@ add-fits : tie.Need-add-fits
 add-fits c = omega (arith, padding-lt _ _ _ (sym (c .before .before .before .padding .ensures) ∙ ap amountOf (c .before .p .given .1)))
 
 fits-requires : tie.Need-fits-requires
-fits-requires c κs = sound-length (c .before .before .before .before .args .s) (c .before .before .before .before .pre .0)
+fits-requires c κs = let s = c .before .before .before .before in sound-length (s .args .s) (s .pre .0)
 
 add-t11 : tie.Need-add-t11
-add-t11 c = omega (arith, padding-lt _ _ _ (sym (c .before .before .before .before .before .padding .ensures) ∙ ap amountOf (c .before .before .before .p .given .1)))
+add-t11 c = let x = c .before .before .before in omega (arith, padding-lt _ _ _ (sym (x .before .before .padding .ensures) ∙ ap amountOf (x .p .given .1)))
 
 returns : tie.Need-returns
 returns c = λ l vs. pad-unaligned (c .before .before .before .before .args .s) vs _ _ _ (sym (c .before .before .before .padding .ensures) ∙ ap amountOf (c .before .k .given .1))
 
 returns-2 : tie.Need-returns-2
-returns-2 c = λ l vs. pad-zeros (c .before .before .before .before .before .before .args .s) vs (c .before .before .before .before .before .before .args .natural) (c .before .before .before .before .before .before .args .zeros) _ (sym (c .before .before .before .before .before .padding .ensures) ∙ ap amountOf (c .before .before .before .p .given .1)) (sym (c .before .fits2 .ensures) ∙ c .if1 .taken)
+returns-2 c =
+    let x = c .before .before .before in
+    let a = x .before .before .before .args in
+    λ l vs. pad-zeros (a .s) vs (a .natural) (a .zeros) _ (sym (x .before .before .padding .ensures) ∙ ap amountOf (x .p .given .1)) (sym (c .before .fits2 .ensures) ∙ c .if1 .taken)
 
 returns-3 : tie.Need-returns-3
-returns-3 c = λ l vs. pad-long (c .before .before .before .before .before .before .args .s) vs (c .before .before .before .before .before .before .args .natural) (c .before .before .before .before .before .before .args .zeros) _ (sym (c .before .before .before .before .before .padding .ensures) ∙ ap amountOf (c .before .before .before .p .given .1)) (sym (c .before .fits2 .ensures) ∙ c .if1 .left)
+returns-3 c =
+    let x = c .before .before .before in
+    let a = x .before .before .before .args in
+    λ l vs. pad-long (a .s) vs (a .natural) (a .zeros) _ (sym (x .before .before .padding .ensures) ∙ ap amountOf (x .p .given .1)) (sym (c .before .fits2 .ensures) ∙ c .if1 .left)
 
 pub pad-spec : {M : Type 1} → statement M
 pad-spec =

@@ -1,5 +1,4 @@
 -- Each kind of item has its own function.
-use denote.Ref.{now}
 use Rattle.definition.specs.declared.Op.the-variants as Op
 use Rattle.plan.specs.declared.item.Plan.the-variants as Plan
 use Rattle.plan.proofs.Plans.{pad-small, op-as, of-op, skips, sets-state}
@@ -17,25 +16,34 @@ enum-known-op-2 : tie.Need-enum-known-op-2
 enum-known-op-2 c = search needs
 
 pad-requires : tie.Need-pad-requires
-pad-requires c κs = (c .before .before .before .before .pre .0, pad-small (c .before .before .before .before .args .op) _ _ (c .before .before .before .before .pre .1 .1) (c .before .op2 .given .1))
+pad-requires c κs = let s = c .before .before .before .before in (s .pre .0, pad-small (s .args .op) _ _ (s .pre .1 .1) (c .before .op2 .given .1))
 
 enum-known-op-3 : tie.Need-enum-known-op-3
 enum-known-op-3 c = search needs
 
 field-requires : tie.Need-field-requires
-field-requires c κs = (c .before .before .before .before .pre .0, (c .before .before .before .before .pre .1 .0, op-as (c .before .before .before .before .args .op) _ (c .before .before .before .before .pre .1 .1) (c .before .op3 .given .1)))
+field-requires c κs = let s = c .before .before .before .before in (s .pre .0, (s .pre .1 .0, op-as (s .args .op) _ (s .pre .1 .1) (c .before .op3 .given .1)))
 
 returns : tie.Need-returns
-returns c = of-op (now (c .before .before .before .args .list)) (c .before .before .before .args .at) (c .before .before .before .args .s) (c .before .before .before .args .op) Op.Blank Plan.Skip (skips (now (c .before .before .before .args .list)) (c .before .before .before .args .at) (c .before .before .before .args .s)) (c .enum-told .given .1)
+returns c =
+    let a = c .before .before .before .args in
+    of-op (a .list .now) (a .at) (a .s) (a .op) Op.Blank Plan.Skip (skips (a .list .now) (a .at) (a .s)) (c .enum-told .given .1)
 
 returns-2 : tie.Need-returns-2
-returns-2 c = of-op (now (c .before .before .before .before .args .list)) (c .before .before .before .before .args .at) (c .before .before .before .before .args .s) (c .before .before .before .before .args .op) (Op.Set (c .before .op .given .0 .0)) (Plan.Set (c .before .op .given .0 .0)) (sets-state (now (c .before .before .before .before .args .list)) (c .before .before .before .before .args .at) (c .before .before .before .before .args .s) (c .before .op .given .0 .0)) (c .before .op .given .1)
+returns-2 c =
+    let a = c .before .before .before .before .args in
+    let x = c .before .op .given .0 .0 in
+    of-op (a .list .now) (a .at) (a .s) (a .op) (Op.Set x) (Plan.Set x) (sets-state (a .list .now) (a .at) (a .s) x) (c .before .op .given .1)
 
 returns-3 : tie.Need-returns-3
-returns-3 c = of-op (now (c .before .before .before .before .before .args .list)) (c .before .before .before .before .before .args .at) (c .before .before .before .before .before .args .s) (c .before .before .before .before .before .args .op) _ (c .pad .result) (λ vs known. c .pad .ensures (now (c .before .before .before .before .before .args .list)) vs) (c .before .before .op2 .given .1)
+returns-3 c =
+    let a = c .before .before .before .before .before .args in
+    of-op (a .list .now) (a .at) (a .s) (a .op) _ (c .pad .result) (λ vs known. c .pad .ensures (a .list .now) vs) (c .before .before .op2 .given .1)
 
 returns-4 : tie.Need-returns-4
-returns-4 c = of-op (now (c .before .before .before .before .before .args .list)) (c .before .before .before .before .before .args .at) (c .before .before .before .before .before .args .s) (c .before .before .before .before .before .args .op) _ (c .field .result) (c .field .ensures) (c .before .before .op3 .given .1)
+returns-4 c =
+    let a = c .before .before .before .before .before .args in
+    of-op (a .list .now) (a .at) (a .s) (a .op) _ (c .field .result) (c .field .ensures) (c .before .before .op3 .given .1)
 
 pub plan-of-spec : {M : Type 1} → statement M
 plan-of-spec =

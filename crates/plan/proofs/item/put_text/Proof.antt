@@ -1,6 +1,6 @@
--- The length.
-use mathlib.Core.Path.{_≡_, refl, sym, ap, _∙_}
-use Rattle.plan.proofs.Plans.{sound-length, text-put, text-long}
+-- By whether there is room.
+use mathlib.Core.Path.{sym, _∙_}
+use Rattle.plan.proofs.Plans.{sound-length, text-put, text-long, was-true, was-false}
 use borrow.Author.Needs.{needs}
 use Rattle.plan.proofs.item.put_text.Statement.{statement}
 use Rattle.plan.proofs.item.put_text.Tie as tie
@@ -11,14 +11,23 @@ add-fits c = search needs
 add-fits-2 : tie.Need-add-fits-2
 add-fits-2 c = search needs
 
+add-fits-3 : tie.Need-add-fits-3
+add-fits-3 c = search needs
+
 fits-requires : tie.Need-fits-requires
 fits-requires c κs = sound-length (c .args .s) (c .pre .0)
 
 returns : tie.Need-returns
-returns c = text-put (c .before .before .args .s) (c .before .before .args .size) (c .before .before .args .start) (c .before .before .args .n) (c .before .before .args .zeros) (c .before .before .args .next) (sym (c .before .fits2 .ensures) ∙ c .if1 .taken)
+returns c =
+    let a = c .before .before .args in
+    text-long (a .s) (a .p) (a .size) (a .start) (a .n) (a .zeros) (a .next) (sym (c .before .fits2 .ensures) ∙ was-false (c .before .fits2 .result) (c .if1 .taken))
 
 returns-2 : tie.Need-returns-2
-returns-2 c = text-long (c .before .before .args .s) (c .before .before .args .size) (c .before .before .args .start) (c .before .before .args .n) (c .before .before .args .zeros) (c .before .before .args .next) (sym (c .before .fits2 .ensures) ∙ c .if1 .left)
+returns-2 c =
+    let a = c .before .before .args in
+    text-put (a .s) (a .p) (a .size) (a .start) (a .n) (a .zeros) (a .next) (sym (c .before .fits2 .ensures) ∙ was-true (c .before .fits2 .result) (c .if1 .left))
 
 pub put-text-spec : {M : Type 1} → statement M
-put-text-spec = tie.close (tie.spec add-fits add-fits-2 fits-requires returns returns-2)
+put-text-spec =
+    tie.close
+    (tie.spec add-fits add-fits-2 add-fits-3 fits-requires returns returns-2)

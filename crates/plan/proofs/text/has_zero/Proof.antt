@@ -31,10 +31,20 @@ loop-less : tie.Need-loop-less Inv-loop μ-loop
 loop-less c = omega arith
 
 loop-again : tie.Need-loop-again Inv-loop μ-loop
-loop-again c = ⊎-elim (λ w. (omega arith, c .before .before .before .loop .inv .1, w .1 ∙ sym (more-zero (c .before .before .before .before .args .list .now) (c .before .before .before .before .args .start) (c .before .before .before .before .args .n) (c .before .before .before .loop .i) (c .before .before .before .loop .inv .1) (omega arith) (w .0 .taken)))) (λ w. (omega arith, c .before .before .before .loop .inv .1, w .1 ∙ c .before .before .before .loop .inv .2 ∙ sym (more-other (c .before .before .before .before .args .list .now) (c .before .before .before .before .args .start) (c .before .before .before .before .args .n) (c .before .before .before .loop .i) (c .before .before .before .loop .inv .1) (omega arith) (w .0 .left)))) (c .if1 .came)
+loop-again c =
+    let l = c .before .before .before in
+    let a = l .before .args in
+    let h = l .loop .inv in
+    ⊎-elim
+    (λ w. (omega arith, h .1, w .1 ∙ sym (more-zero (a .list .now) (a .start) (a .n) (l .loop .i) (h .1) (omega arith) (w .0 .taken))))
+    (λ w. (omega arith, h .1, w .1 ∙ h .2 ∙ sym (more-other (a .list .now) (a .start) (a .n) (l .loop .i) (h .1) (omega arith) (w .0 .left))))
+    (c .if1 .came)
 
 returns : tie.Need-returns Inv-loop μ-loop
-returns c = let e : c .before .loop .i ≡ c .before .before .args .n = omega arith in c .before .loop .inv .2 ∙ ap (λ (k : ℕ). hasZero (take k (drop (c .before .before .args .start) (c .before .before .args .list .now)))) e
+returns c =
+    let a = c .before .before .args in
+    let e : c .before .loop .i ≡ a .n = omega arith in
+    c .before .loop .inv .2 ∙ ap (λ (k : ℕ). hasZero (take k (drop (a .start) (a .list .now)))) e
 
 pub has-zero-spec : {M : Type 1} → statement M
 has-zero-spec =

@@ -1,5 +1,4 @@
 -- What stands at the offset is a value, or nothing.
-use denote.Ref.{now}
 use Rattle.plan.proofs.Texts.{text-found, text-none}
 use borrow.Author.Needs.{needs}
 use Rattle.plan.proofs.text.text_at.Statement.{statement}
@@ -18,10 +17,16 @@ enum-told : tie.Need-enum-told
 enum-told c = search needs
 
 returns : tie.Need-returns
-returns c = text-found (now (c .before .before .before .before .before .before .args .list)) (c .before .before .before .before .before .before .args .at) _ _ (c .text-of .result) (rw (c .before .before .v .given .1) at (c .before .before .before .before .field-at .ensures)) (c .text-of .ensures)
+returns c =
+    let f = c .before .before .before .before in
+    let a = f .before .before .args in
+    text-found (a .list .now) (a .at) _ _ (c .text-of .result) (rw (c .before .before .v .given .1) at (f .field-at .ensures)) (c .text-of .ensures)
 
 returns-2 : tie.Need-returns-2
-returns-2 c = text-none (now (c .before .before .before .before .args .list)) (c .before .before .before .before .args .at) (rw (c .enum-told .given .1) at (c .before .before .field-at .ensures))
+returns-2 c =
+    let f = c .before .before in
+    let a = f .before .before .args in
+    text-none (a .list .now) (a .at) (rw (c .enum-told .given .1) at (f .field-at .ensures))
 
 pub text-at-spec : {M : Type 1} → statement M
 text-at-spec =

@@ -105,8 +105,8 @@ returns-3 c =
 enum-known-t : tie.Need-enum-known-t Inv-loop μ-loop
 enum-known-t c = c .match2 .keys2
 
-same-requires : tie.Need-same-requires Inv-loop μ-loop
-same-requires c κs = tt
+parts-requires : tie.Need-parts-requires Inv-loop μ-loop
+parts-requires c κs = tt
 
 loop-less : tie.Need-loop-less Inv-loop μ-loop
 loop-less c =
@@ -121,7 +121,7 @@ loop-again c =
     let o = x .before .before .before in
     let l = looped o in
     passing-set (l .loop .inv) (entry l .pre .1 .1)
-    (item o) (x .before .before .read-op .ensures) (x .t .given .1) (c .same .ensures)
+    (item o) (x .before .before .read-op .ensures) (x .t .given .1) (c .parts .ensures)
 
 enum-known-r : tie.Need-enum-known-r Inv-loop μ-loop
 enum-known-r c = c .match2 .keys3
@@ -193,7 +193,7 @@ pass-spec =
     same-length-3
     returns-3
     enum-known-t
-    same-requires
+    parts-requires
     loop-less
     loop-again
     enum-known-r

@@ -1,53 +1,81 @@
--- Nothing, or the length, the text and the zeros, one after the other.
-use mathlib.Core.Path.{_≡_, refl, sym, ap, _∙_}
+-- Nothing, or the padding, the length, the text and the zeros, one after the other.
+use Prim.Native.Nat.{_+_, _≤_}
 use native.Mathlib.Omega.{arith}
-use denote.Ref.{now}
-use lib.ListN.{take, drop, replicate, length-replicate}
+use lib.ListN.{length, take, drop, replicate, length-replicate}
 use Rattle.definition.specs.Bytes.{laid}
 use Rattle.definition.proofs.Bytes.{length-laid, length-part}
 use Rattle.plan.proofs.Plans.{was-true, was-false}
-use Rattle.write.proofs.Pasting.{pasted-three}
+use Rattle.write.proofs.Pasting.{padded-three}
 use borrow.Author.Needs.{needs}
 use Rattle.write.proofs.emit.emit_text.Statement.{statement}
 use Rattle.write.proofs.emit.emit_text.Tie as tie
 
+-- there is room for all of it
+room : (c : tie.After-put-zeros) → let a = c .before .before .before .before .before .args in a .at + (a .pads + (a .size + a .n + a .zeros)) ≤ length (a .out .now)
+room c = let s = c .before .before .before .before .before in s .pre .0 (was-true (s .args .put) (c .before .before .if1 .left))
+
 returns : tie.Need-returns
 returns c = rw (was-false (c .before .before .before .args .put) (c .if1 .taken))
 
+put-zeros-requires : tie.Need-put-zeros-requires
+put-zeros-requires c κs = let s = c .before .before .before .before in omega (arith, s .pre .0 (was-true (s .args .put) (c .before .if1 .left)))
+
+add-put : tie.Need-add-put
+add-put c = omega (arith, room (c .before .before .before))
+
 put-requires : tie.Need-put-requires
-put-requires c κs = omega (arith, c .before .before .before .before .pre .0 (was-true (c .before .before .before .before .args .put) (c .before .if1 .left)))
+put-requires c κs = omega (arith, room (c .before .before .before))
 
 add-put-copy : tie.Need-add-put-copy
-add-put-copy c = omega (arith, c .before .before .before .before .before .before .before .before .pre .0 (was-true (c .before .before .before .before .before .before .before .before .args .put) (c .before .before .before .before .before .if1 .left)))
+add-put-copy c = omega (arith, room (c .before .before .before .before .before .before .before))
+
+add-put-copy-2 : tie.Need-add-put-copy-2
+add-put-copy-2 c = omega (arith, room (c .before .before .before .before .before .before .before))
 
 put-copy-requires : tie.Need-put-copy-requires
-put-copy-requires c κs = (omega (arith, c .before .before .before .before .before .before .before .before .pre .0 (was-true (c .before .before .before .before .before .before .before .before .args .put) (c .before .before .before .before .before .if1 .left))), c .before .before .before .before .before .before .before .before .pre .1)
+put-copy-requires c κs = (omega (arith, room (c .before .before .before .before .before .before .before)), c .before .before .before .before .before .before .before .before .before .before .before .before .pre .1)
 
 add-put-zeros : tie.Need-add-put-zeros
-add-put-zeros c = omega (arith, c .before .before .before .before .before .before .before .before .before .before .before .before .pre .0 (was-true (c .before .before .before .before .before .before .before .before .before .before .before .before .args .put) (c .before .before .before .before .before .before .before .before .before .if1 .left)))
+add-put-zeros c = omega (arith, room (c .before .before .before .before .before .before .before .before .before .before .before))
 
 add-put-zeros-2 : tie.Need-add-put-zeros-2
-add-put-zeros-2 c = omega (arith, c .before .before .before .before .before .before .before .before .before .before .before .before .pre .0 (was-true (c .before .before .before .before .before .before .before .before .before .before .before .before .args .put) (c .before .before .before .before .before .before .before .before .before .if1 .left)))
+add-put-zeros-2 c = omega (arith, room (c .before .before .before .before .before .before .before .before .before .before .before))
 
-put-zeros-requires : tie.Need-put-zeros-requires
-put-zeros-requires c κs = omega (arith, c .before .before .before .before .before .before .before .before .before .before .before .before .pre .0 (was-true (c .before .before .before .before .before .before .before .before .before .before .before .before .args .put) (c .before .before .before .before .before .before .before .before .before .if1 .left)))
+add-put-zeros-3 : tie.Need-add-put-zeros-3
+add-put-zeros-3 c = omega (arith, room (c .before .before .before .before .before .before .before .before .before .before .before))
+
+put-zeros-requires-2 : tie.Need-put-zeros-requires-2
+put-zeros-requires-2 c κs = omega (arith, room (c .before .before .before .before .before .before .before .before .before .before .before))
 
 same-length : tie.Need-same-length
 same-length c = search needs
 
 returns-2 : tie.Need-returns-2
-returns-2 c = let s = c .before .before .before .before .before .before .before .before .before .before .before .before .before .before .before in let a = s .args in let on = was-true (a .put) (c .before .before .before .before .before .before .before .before .before .before .before .before .if1 .left) in rw on (pasted-three (now (a .out)) _ _ _ (laid (a .big) (a .size) (a .n) 0) (take (a .n) (drop (a .start) (now (a .list)))) (replicate (a .zeros) 0) (a .at) (a .size) (a .n) (a .zeros) (length-laid (a .big) (a .size) (a .n) 0) (length-part (a .n) (a .start) (now (a .list)) (s .pre .1)) (length-replicate (a .zeros) 0) (s .pre .0 on) (c .before .before .before .before .before .before .before .before .before .before .put .ensures) (c .before .before .before .before .before .before .put-copy .ensures) (c .before .before .put-zeros .ensures))
+returns-2 c =
+    let z = c .before .before .before .before .before .before .before .before .before .before .before .before .before .before in
+    let s = z .before .before .before .before .before in
+    let a = s .args in
+    let n = laid (a .big) (a .size) (a .n) 0 in
+    let x = take (a .n) (drop (a .start) (a .list .now)) in
+    rw (was-true (a .put) (z .before .before .if1 .left))
+    (padded-three (a .out .now) _ _ _ _ n x (replicate (a .zeros) 0) (a .at) (a .pads) (a .size) (a .n) (a .zeros)
+    (length-laid (a .big) (a .size) (a .n) 0) (length-part (a .n) (a .start) (a .list .now) (s .pre .1)) (length-replicate (a .zeros) 0) (room z)
+    (z .put-zeros .ensures) (c .before .before .before .before .before .before .before .before .before .before .put .ensures) (c .before .before .before .before .before .before .put-copy .ensures) (c .before .before .put-zeros2 .ensures))
 
 pub emit-text-spec : {M : Type 1} → statement M
 emit-text-spec =
     tie.close
     (tie.spec
     returns
+    put-zeros-requires
+    add-put
     put-requires
     add-put-copy
+    add-put-copy-2
     put-copy-requires
     add-put-zeros
     add-put-zeros-2
-    put-zeros-requires
+    add-put-zeros-3
+    put-zeros-requires-2
     same-length
     returns-2)

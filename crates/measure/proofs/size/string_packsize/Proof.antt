@@ -1,0 +1,44 @@
+-- The length of the state that the format leads to from the start state.
+use mathlib.Core.Path.{sym, ap, _∙_}
+use Rattle.align.specs.Amounts.{stateOf}
+use Rattle.measure.proofs.Sizes.{size-is}
+use borrow.Author.Needs.{needs}
+use Rattle.measure.proofs.size.string_packsize.Statement.{statement}
+use Rattle.measure.proofs.size.string_packsize.Tie as tie
+
+table-requires : tie.Need-table-requires
+table-requires c κs = search needs
+
+start-requires : tie.Need-start-requires
+start-requires c κs = search needs
+
+measure-from-requires : tie.Need-measure-from-requires
+measure-from-requires c κs = search needs
+
+enum-known-k : tie.Need-enum-known-k
+enum-known-k c = search needs
+
+enum-known-s : tie.Need-enum-known-s
+enum-known-s c = search needs
+
+returns : tie.Need-returns
+returns c =
+    let m = c .before .before .before in
+    size-is _ (m .before .start .ensures) (sym (ap stateOf (c .before .k .given .1)) ∙ m .measure-from .ensures)
+
+returns-2 : tie.Need-returns-2
+returns-2 c =
+    let m = c .before .before .before in
+    size-is _ (m .before .start .ensures) (sym (ap stateOf (c .before .s .given .1)) ∙ m .measure-from .ensures)
+
+pub string-packsize-spec : {M : Type 1} → statement M
+string-packsize-spec =
+    tie.close
+    (tie.spec
+    table-requires
+    start-requires
+    measure-from-requires
+    enum-known-k
+    enum-known-s
+    returns
+    returns-2)

@@ -1,0 +1,43 @@
+-- The number that was found, rounded, or 12.
+use mathlib.Core.Path.{sym, ap, _∙_}
+use Rattle.definition.specs.Answers.{accepted}
+use lib.IntN.{pos}
+use Prim.Native.Nat.{ℕ}
+use Rattle.numbers.specs.Meaning.{bitsFound}
+use Rattle.word.proofs.Words.{says-pattern, says-refused, single-word, single-none}
+use borrow.Author.Needs.{needs}
+use Rattle.word.proofs.single.Statement.{statement}
+use Rattle.word.proofs.single.Tie as tie
+
+as-number-requires : tie.Need-as-number-requires
+as-number-requires c κs = search needs
+
+enum-known-b : tie.Need-enum-known-b
+enum-known-b c = search needs
+
+to-single-requires : tie.Need-to-single-requires
+to-single-requires c κs = search needs
+
+cast-t6 : tie.Need-cast-t6
+cast-t6 c = search needs
+
+enum-told : tie.Need-enum-told
+enum-told c = search needs
+
+returns : tie.Need-returns
+returns c = λ l n h. says-pattern n _ h (single-word _ _ n (sym (c .before .before .before .before .as-number .ensures l) ∙ ap bitsFound (c .before .before .b .given .1)) ∙ ap (λ (x : ℕ). accepted (pos x)) (sym (c .to-single .ensures)))
+
+returns-2 : tie.Need-returns-2
+returns-2 c = λ l n h. says-refused n _ (single-none _ n (sym (c .before .before .as-number .ensures l) ∙ ap bitsFound (c .enum-told .given .1)))
+
+pub single-spec : {M : Type 1} → statement M
+single-spec =
+    tie.close
+    (tie.spec
+    as-number-requires
+    enum-known-b
+    to-single-requires
+    cast-t6
+    enum-told
+    returns
+    returns-2)

@@ -1,0 +1,152 @@
+-- Each kind has its own function.
+use Rattle.definition.specs.declared.Kind.the-variants.{LuaInteger, LuaUnsigned, Size, Single, Double}
+use Rattle.word.proofs.Words.{says-as, pattern-size, of-kind, of-size, same-small, signed-from-1, lua-size}
+use mathlib.Core.Path.{sym}
+use borrow.Author.Needs.{needs}
+use Rattle.word.proofs.word_of.Statement.{statement}
+use Rattle.word.proofs.word_of.Tie as tie
+
+enum-told : tie.Need-enum-told
+enum-told c = search needs
+
+any-integer-requires : tie.Need-any-integer-requires
+any-integer-requires c κs = search needs
+
+enum-told-2 : tie.Need-enum-told-2
+enum-told-2 c = search needs
+
+any-integer-requires-2 : tie.Need-any-integer-requires-2
+any-integer-requires-2 c κs = search needs
+
+enum-told-3 : tie.Need-enum-told-3
+enum-told-3 c = search needs
+
+signed-requires : tie.Need-signed-requires
+signed-requires c κs = let s = c .before .before in (s .pre .0, signed-from-1 (s .args .kind) (s .args .size) (s .pre .1) (c .enum-told3 .given .1))
+
+enum-told-4 : tie.Need-enum-told-4
+enum-told-4 c = search needs
+
+unsigned-requires : tie.Need-unsigned-requires
+unsigned-requires c κs = search needs
+
+enum-told-5 : tie.Need-enum-told-5
+enum-told-5 c = search needs
+
+lua-integer-requires : tie.Need-lua-integer-requires
+lua-integer-requires c κs = search needs
+
+enum-told-6 : tie.Need-enum-told-6
+enum-told-6 c = search needs
+
+lua-unsigned-requires : tie.Need-lua-unsigned-requires
+lua-unsigned-requires c κs = search needs
+
+enum-told-7 : tie.Need-enum-told-7
+enum-told-7 c = search needs
+
+size-word-requires : tie.Need-size-word-requires
+size-word-requires c κs = search needs
+
+enum-told-8 : tie.Need-enum-told-8
+enum-told-8 c = search needs
+
+single-requires : tie.Need-single-requires
+single-requires c κs = search needs
+
+enum-told-9 : tie.Need-enum-told-9
+enum-told-9 c = search needs
+
+double-requires : tie.Need-double-requires
+double-requires c κs = search needs
+
+returns : tie.Need-returns
+returns c =
+    let s = c .before .before .before in
+    let a = s .args in
+    λ l. of-kind (a .size) _ (c .any-integer .result) (c .any-integer .ensures l (a .size)) (c .before .enum-told .given .1)
+
+returns-2 : tie.Need-returns-2
+returns-2 c =
+    let s = c .before .before .before in
+    let a = s .args in
+    λ l. of-kind (a .size) _ (c .any-integer2 .result) (says-as (a .size) (c .any-integer2 .result) (c .any-integer2 .ensures l (a .size)) (sym (same-small (a .size) _))) (c .before .enum-told2 .given .1)
+
+returns-3 : tie.Need-returns-3
+returns-3 c =
+    let s = c .before .before .before in
+    let a = s .args in
+    λ l. of-kind (a .size) _ (c .signed .result) (c .signed .ensures l) (c .before .enum-told3 .given .1)
+
+returns-4 : tie.Need-returns-4
+returns-4 c =
+    let s = c .before .before .before in
+    let a = s .args in
+    λ l. of-kind (a .size) _ (c .unsigned .result) (c .unsigned .ensures l) (c .before .enum-told4 .given .1)
+
+returns-5 : tie.Need-returns-5
+returns-5 c =
+    let s = c .before .before .before in
+    let a = s .args in
+    let h = pattern-size (a .kind) LuaInteger (a .size) (s .pre .1) (c .before .enum-told5 .given .1) tt in
+    λ l. of-kind (a .size) _ (c .lua-integer .result) (c .lua-integer .ensures l (a .size) h) (c .before .enum-told5 .given .1)
+
+returns-6 : tie.Need-returns-6
+returns-6 c =
+    let s = c .before .before .before in
+    let a = s .args in
+    let h = lua-size (a .kind) (a .size) (s .pre .1) (c .before .enum-told6 .given .1) in
+    λ l. of-kind (a .size) _ (c .lua-unsigned .result) (of-size LuaUnsigned 8 (a .size) _ (c .lua-unsigned .result) (c .lua-unsigned .ensures l) h) (c .before .enum-told6 .given .1)
+
+returns-7 : tie.Need-returns-7
+returns-7 c =
+    let s = c .before .before .before in
+    let a = s .args in
+    let h = pattern-size (a .kind) Size (a .size) (s .pre .1) (c .before .enum-told7 .given .1) tt in
+    λ l. of-kind (a .size) _ (c .size-word .result) (c .size-word .ensures l (a .size) h) (c .before .enum-told7 .given .1)
+
+returns-8 : tie.Need-returns-8
+returns-8 c =
+    let s = c .before .before .before in
+    let a = s .args in
+    let h = pattern-size (a .kind) Single (a .size) (s .pre .1) (c .before .enum-told8 .given .1) tt in
+    λ l. of-kind (a .size) _ (c .single .result) (c .single .ensures l (a .size) h) (c .before .enum-told8 .given .1)
+
+returns-9 : tie.Need-returns-9
+returns-9 c =
+    let s = c .before .before .before in
+    let a = s .args in
+    let h = pattern-size (a .kind) Double (a .size) (s .pre .1) (c .before .enum-told9 .given .1) tt in
+    λ l. of-kind (a .size) _ (c .double .result) (c .double .ensures l (a .size) h) (c .before .enum-told9 .given .1)
+
+pub word-of-spec : {M : Type 1} → statement M
+word-of-spec =
+    tie.close
+    (tie.spec
+    enum-told
+    any-integer-requires
+    enum-told-2
+    any-integer-requires-2
+    enum-told-3
+    signed-requires
+    enum-told-4
+    unsigned-requires
+    enum-told-5
+    lua-integer-requires
+    enum-told-6
+    lua-unsigned-requires
+    enum-told-7
+    size-word-requires
+    enum-told-8
+    single-requires
+    enum-told-9
+    double-requires
+    returns
+    returns-2
+    returns-3
+    returns-4
+    returns-5
+    returns-6
+    returns-7
+    returns-8
+    returns-9)
