@@ -82,18 +82,6 @@ pub fn further(s: State, n: u64) -> State
     state(s.big, s.limit, s.length + n)
 }
 
-// The natural alignment of a field.
-pub fn natural(f: Field) -> u64
-    ensures { λ r. ⌜ r ≡ states.natural f ⌝ }
-{
-    match f {
-        Field::Number(_, n) => n,
-        Field::Chars(_) => 1,
-        Field::ZeroEnded => 1,
-        Field::Counted(_) => 1,
-    }
-}
-
 fn lesser(a: u64, b: u64) -> u64
     ensures { λ r. ⌜ r ≡ min a b ⌝ }
 {

@@ -36,10 +36,6 @@ measuring s is = runSilent measureOp s is
 abbrev pub measureFrom : Table → State → List ℕ → Checked State
 measureFrom t s f = measuring s (ops t f)
 
--- the state that a format leads to from a state
-abbrev pub measureFrom : State → List ℕ → Checked State
-measureFrom s f = measuring s (items f) >>= λ r. accepted (r .0)
-
 -- the size of a format
 unfoldable pub measure : Table → List ℕ → Checked ℕ
 measure t f = measureFrom t start f >>= λ s. accepted (s .length)

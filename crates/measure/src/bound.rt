@@ -19,8 +19,9 @@ ghost use mathlib.Core.Path.{_≡_};
 ghost use Prim.Native.Nat.{_+_, min};
 ghost use Rattle.definition.specs.Bound as bounds;
 ghost use Rattle.definition.specs.Calls.{listBound};
+ghost use Rattle.definition.proofs.Ops.{Sizes};
 ghost use Rattle.align.specs.Amounts.{stateOf};
-ghost use Rattle.format.specs.Packed.{packed};
+ghost use Rattle.format.specs.Packed.{tableAt};
 ghost use Rattle.measure.specs.Fields.{boundField, boundPad};
 ghost use Rattle.measure.specs.Measured.{measuredOf};
 
@@ -75,10 +76,10 @@ fn bound_op(s: State, op: Op, data_length: u64) -> Stepped
     }
 }
 
-// The list bound by the option table.
+// The list bound by the table that is lent.
 fn bound_by(table: &[u8; 256], format: &[u8], data_length: u64) -> Measured
-    requires { ⌜ now table ≡ packed ⌝ }
-    ensures { λ r. ⌜ measuredOf r ≡ bounds.bound (now (format .entry)) «data_length» ⌝ }
+    requires { ⌜ Sizes (tableAt (now table)) ⌝ }
+    ensures { λ r. ⌜ measuredOf r ≡ bounds.bound (tableAt (now (table .entry))) (now (format .entry)) «data_length» ⌝ }
 {
     let mut c = Cursor::new();
     let mut s = start();

@@ -16,8 +16,9 @@ use format::options::table;
 ghost use mathlib.Core.Path.{_≡_};
 ghost use Rattle.definition.specs.Measuring.{sizeOf, measurePad, measureOp, measureFrom};
 ghost use Rattle.definition.specs.Calls.{stringPacksize};
+ghost use Rattle.definition.proofs.Ops.{Sizes};
 ghost use Rattle.align.specs.Amounts.{amountOf, stateOf};
-ghost use Rattle.format.specs.Packed.{packed};
+ghost use Rattle.format.specs.Packed.{tableAt};
 ghost use Rattle.measure.specs.Fields.{measureField};
 ghost use Rattle.measure.specs.Measured.{measuredOf};
 
@@ -79,10 +80,10 @@ fn measure_op(s: State, op: Op) -> Stepped
     }
 }
 
-// The state that a format leads to from a state, by the option table.
+// The state that a format leads to from a state, by the table that is lent.
 fn measure_from(table: &[u8; 256], format: &[u8], from: State) -> Stepped
-    requires { ⌜ now table ≡ packed ⌝ }
-    ensures { λ r. ⌜ stateOf r ≡ measureFrom from (now (format .entry)) ⌝ }
+    requires { ⌜ Sizes (tableAt (now table)) ⌝ }
+    ensures { λ r. ⌜ stateOf r ≡ measureFrom (tableAt (now (table .entry))) from (now (format .entry)) ⌝ }
 {
     let mut c = Cursor::new();
     let mut s = from;

@@ -9,21 +9,23 @@ use Rattle.definition.specs.Bound.{boundOp}
 use Rattle.definition.specs.States.{start}
 use Rattle.definition.specs.declared.Op.{Op}
 use Rattle.align.specs.Amounts.{stateOf}
+use Rattle.format.specs.Packed.{tableAt}
 use Rattle.format.specs.Steps.{nextAt, nextOf}
-use Rattle.measure.proofs.Runs.{walks, Ran, run-none, run-end, run-refusal, run-refused, run-on, ahead}
+use Rattle.measure.proofs.Runs.{walks, Ran, run-none, run-end, run-refusal, run-refused, run-on}
+use Rattle.format.proofs.Walking.{ahead}
 use Rattle.measure.proofs.Sizes.{bound-is}
 use Rattle.measure.proofs.bound.bound_by.Statement.{statement}
 use Rattle.measure.proofs.bound.bound_by.Tie as tie
 
 abbrev Inv-loop : tie.InvT-loop
-Inv-loop table format data-length c₀ s₀ c s = Ran (boundOp data-length) (walks (boundOp data-length) start format) format (c .at) s
+Inv-loop table format data-length c₀ s₀ c s = Ran (boundOp data-length) (tableAt table) (walks (boundOp data-length) (tableAt table) start format) format (c .at) s
 
 abbrev μ-loop : tie.MeasureT-loop
 μ-loop table format data-length c₀ s₀ c s = length format - c .at
 
 -- the item that the cursor read
 item : (c : tie.After-op Inv-loop μ-loop) → let l = c .before .before .before .before .before in
-    nextAt (l .loop .c .at) (drop (l .loop .c .at) (l .before .before .before .before .args .format .now)) ≡ accepted (some (c .op .result, c .before .before .i .given .0 .1 .0 .at))
+    nextAt (tableAt (l .before .before .before .before .args .table .now)) (l .loop .c .at) (drop (l .loop .c .at) (l .before .before .before .before .args .format .now)) ≡ accepted (some (c .op .result, c .before .before .i .given .0 .1 .0 .at))
 item c =
     sym (c .before .before .before .before .next .ensures) ∙ ap nextOf (c .before .before .i .given .1)
     ∙ ap (λ (o : Op). accepted (some (o, c .before .before .i .given .0 .1 .0 .at))) (sym (c .op .ensures))
@@ -37,7 +39,7 @@ start-requires c κs = tt
 loop-holds : tie.Need-loop-holds Inv-loop μ-loop
 loop-holds c =
     let a = c .before .before .before .args in
-    subst (Ran (boundOp (a .data-length)) _ (a .format .now) (c .before .new .result .at)) (sym (c .start .ensures)) (run-none (boundOp (a .data-length)) start (a .format .now) _ (c .before .new .ensures))
+    subst (Ran (boundOp (a .data-length)) (tableAt (a .table .now)) _ (a .format .now) (c .before .new .result .at)) (sym (c .start .ensures)) (run-none (boundOp (a .data-length)) (tableAt (a .table .now)) start (a .format .now) _ (c .before .new .ensures))
 
 next-requires : tie.Need-next-requires Inv-loop μ-loop
 next-requires c κs = c .before .before .before .before .pre
@@ -48,7 +50,7 @@ enum-told c = c .match .keys1
 returns : tie.Need-returns Inv-loop μ-loop
 returns c =
     let l = c .before .before .before in
-    bound-is _ _ (run-end (boundOp (l .before .before .before .before .args .data-length)) (l .loop .inv) (sym (c .before .before .next .ensures) ∙ ap nextOf (c .enum-told .given .1)))
+    bound-is _ _ _ (run-end (boundOp (l .before .before .before .before .args .data-length)) (l .loop .inv) (sym (c .before .before .next .ensures) ∙ ap nextOf (c .enum-told .given .1)))
 
 enum-known-k : tie.Need-enum-known-k Inv-loop μ-loop
 enum-known-k c = c .match .keys2
@@ -56,7 +58,7 @@ enum-known-k c = c .match .keys2
 returns-2 : tie.Need-returns-2 Inv-loop μ-loop
 returns-2 c =
     let l = c .before .before .before .before in
-    bound-is _ _ (run-refusal (boundOp (l .before .before .before .before .args .data-length)) (l .loop .inv) (sym (c .before .before .before .next .ensures) ∙ ap nextOf (c .before .k .given .1)))
+    bound-is _ _ _ (run-refusal (boundOp (l .before .before .before .before .args .data-length)) (l .loop .inv) (sym (c .before .before .before .next .ensures) ∙ ap nextOf (c .before .k .given .1)))
 
 enum-known-i : tie.Need-enum-known-i Inv-loop μ-loop
 enum-known-i c = c .match .keys3
@@ -74,7 +76,7 @@ returns-3 : tie.Need-returns-3 Inv-loop μ-loop
 returns-3 c =
     let o = c .before .before .before .before in
     let l = o .before .before .before .before .before in
-    bound-is _ _ (run-refused (boundOp (l .before .before .before .before .args .data-length)) (l .loop .inv) (item o) (sym (c .before .before .before .bound-op .ensures) ∙ ap stateOf (c .before .k2 .given .1)))
+    bound-is _ _ _ (run-refused (boundOp (l .before .before .before .before .args .data-length)) (l .loop .inv) (item o) (sym (c .before .before .before .bound-op .ensures) ∙ ap stateOf (c .before .k2 .given .1)))
 
 enum-known-t : tie.Need-enum-known-t Inv-loop μ-loop
 enum-known-t c = c .match2 .keys2
@@ -86,7 +88,7 @@ loop-less : tie.Need-loop-less Inv-loop μ-loop
 loop-less c =
     let o = c .before .before .before .before .before in
     let l = o .before .before .before .before .before in
-    let h = ahead (l .before .before .before .before .args .format .now) (l .loop .c .at) (item o) in
+    let h = ahead (tableAt (l .before .before .before .before .args .table .now)) (l .before .before .before .before .args .format .now) (l .loop .c .at) (item o) in
     omega arith
 
 loop-again : tie.Need-loop-again Inv-loop μ-loop

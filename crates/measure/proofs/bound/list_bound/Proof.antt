@@ -1,5 +1,6 @@
 -- The data length is tested first.
-use mathlib.Core.Path.{_∙_}
+use mathlib.Core.Path.{sym, _∙_, subst}
+use Rattle.definition.proofs.Ops.{Sizes, options-sizes}
 use borrow.Author.Needs.{needs}
 use denote.Ref.{now}
 use Rattle.measure.proofs.Sizes.{bound-21, bound-short}
@@ -13,10 +14,13 @@ table-requires : tie.Need-table-requires
 table-requires c κs = search needs
 
 bound-by-requires : tie.Need-bound-by-requires
-bound-by-requires c κs = search needs
+bound-by-requires c κs = subst Sizes (sym (c .before .table .ensures)) options-sizes
 
 returns-2 : tie.Need-returns-2
-returns-2 c = c .bound-by .ensures ∙ bound-short (now (c .before .before .before .before .before .args .format)) (c .before .before .before .before .before .args .data-length) (c .before .before .before .if1 .left)
+returns-2 c =
+    let i = c .before .before .before in
+    let a = i .before .before .args in
+    c .bound-by .ensures ∙ bound-short _ (c .before .before .table .ensures) (now (a .format)) (a .data-length) (i .if1 .left)
 
 pub list-bound-spec : {M : Type 1} → statement M
 list-bound-spec = tie.close (tie.spec returns table-requires bound-by-requires returns-2)

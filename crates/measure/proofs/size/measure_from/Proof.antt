@@ -8,21 +8,23 @@ use Rattle.definition.specs.Answers.{accepted}
 use Rattle.definition.specs.Measuring.{measureOp}
 use Rattle.definition.specs.declared.Op.{Op}
 use Rattle.align.specs.Amounts.{stateOf}
+use Rattle.format.specs.Packed.{tableAt}
 use Rattle.format.specs.Steps.{nextAt, nextOf}
-use Rattle.measure.proofs.Runs.{walks, Ran, run-none, run-end, run-refusal, run-refused, run-on, ahead}
+use Rattle.measure.proofs.Runs.{walks, Ran, run-none, run-end, run-refusal, run-refused, run-on}
+use Rattle.format.proofs.Walking.{ahead}
 use Rattle.measure.proofs.Sizes.{measure-is}
 use Rattle.measure.proofs.size.measure_from.Statement.{statement}
 use Rattle.measure.proofs.size.measure_from.Tie as tie
 
 abbrev Inv-loop : tie.InvT-loop
-Inv-loop table format c₀ s₀ c s = Ran measureOp (walks measureOp s₀ format) format (c .at) s
+Inv-loop table format c₀ s₀ c s = Ran measureOp (tableAt table) (walks measureOp (tableAt table) s₀ format) format (c .at) s
 
 abbrev μ-loop : tie.MeasureT-loop
 μ-loop table format c₀ s₀ c s = length format - c .at
 
 -- the item that the cursor read
 item : (c : tie.After-op Inv-loop μ-loop) → let l = c .before .before .before .before .before in
-    nextAt (l .loop .c .at) (drop (l .loop .c .at) (l .before .before .before .args .format .now)) ≡ accepted (some (c .op .result, c .before .before .i .given .0 .1 .0 .at))
+    nextAt (tableAt (l .before .before .before .args .table .now)) (l .loop .c .at) (drop (l .loop .c .at) (l .before .before .before .args .format .now)) ≡ accepted (some (c .op .result, c .before .before .i .given .0 .1 .0 .at))
 item c =
     sym (c .before .before .before .before .next .ensures) ∙ ap nextOf (c .before .before .i .given .1)
     ∙ ap (λ (o : Op). accepted (some (o, c .before .before .i .given .0 .1 .0 .at))) (sym (c .op .ensures))
@@ -31,7 +33,7 @@ new-requires : tie.Need-new-requires Inv-loop μ-loop
 new-requires c κs = tt
 
 loop-holds : tie.Need-loop-holds Inv-loop μ-loop
-loop-holds c = run-none measureOp _ _ _ (c .new .ensures)
+loop-holds c = run-none measureOp _ _ _ _ (c .new .ensures)
 
 next-requires : tie.Need-next-requires Inv-loop μ-loop
 next-requires c κs = c .before .before .before .pre
@@ -42,7 +44,7 @@ enum-told c = c .match .keys1
 returns : tie.Need-returns Inv-loop μ-loop
 returns c =
     let l = c .before .before .before in
-    measure-is _ _ (run-end measureOp (l .loop .inv) (sym (c .before .before .next .ensures) ∙ ap nextOf (c .enum-told .given .1)))
+    measure-is _ _ _ (run-end measureOp (l .loop .inv) (sym (c .before .before .next .ensures) ∙ ap nextOf (c .enum-told .given .1)))
 
 enum-known-k : tie.Need-enum-known-k Inv-loop μ-loop
 enum-known-k c = c .match .keys2
@@ -50,7 +52,7 @@ enum-known-k c = c .match .keys2
 returns-2 : tie.Need-returns-2 Inv-loop μ-loop
 returns-2 c =
     let l = c .before .before .before .before in
-    measure-is _ _ (run-refusal measureOp (l .loop .inv) (sym (c .before .before .before .next .ensures) ∙ ap nextOf (c .before .k .given .1)))
+    measure-is _ _ _ (run-refusal measureOp (l .loop .inv) (sym (c .before .before .before .next .ensures) ∙ ap nextOf (c .before .k .given .1)))
 
 enum-known-i : tie.Need-enum-known-i Inv-loop μ-loop
 enum-known-i c = c .match .keys3
@@ -68,7 +70,7 @@ returns-3 : tie.Need-returns-3 Inv-loop μ-loop
 returns-3 c =
     let o = c .before .before .before .before in
     let l = o .before .before .before .before .before in
-    measure-is _ _ (run-refused measureOp (l .loop .inv) (item o) (sym (c .before .before .before .measure-op .ensures) ∙ ap stateOf (c .before .k2 .given .1)))
+    measure-is _ _ _ (run-refused measureOp (l .loop .inv) (item o) (sym (c .before .before .before .measure-op .ensures) ∙ ap stateOf (c .before .k2 .given .1)))
 
 enum-known-t : tie.Need-enum-known-t Inv-loop μ-loop
 enum-known-t c = c .match2 .keys2
@@ -80,7 +82,7 @@ loop-less : tie.Need-loop-less Inv-loop μ-loop
 loop-less c =
     let o = c .before .before .before .before .before in
     let l = o .before .before .before .before .before in
-    let h = ahead (l .before .before .before .args .format .now) (l .loop .c .at) (item o) in
+    let h = ahead (tableAt (l .before .before .before .args .table .now)) (l .before .before .before .args .format .now) (l .loop .c .at) (item o) in
     omega arith
 
 loop-again : tie.Need-loop-again Inv-loop μ-loop

@@ -1,5 +1,6 @@
 -- The length of the state that the format leads to from the start state.
-use mathlib.Core.Path.{sym, ap, _∙_}
+use mathlib.Core.Path.{sym, ap, _∙_, subst}
+use Rattle.definition.proofs.Ops.{Sizes, options-sizes}
 use Rattle.align.specs.Amounts.{stateOf}
 use Rattle.measure.proofs.Sizes.{size-is}
 use borrow.Author.Needs.{needs}
@@ -13,7 +14,7 @@ start-requires : tie.Need-start-requires
 start-requires c κs = search needs
 
 measure-from-requires : tie.Need-measure-from-requires
-measure-from-requires c κs = search needs
+measure-from-requires c κs = subst Sizes (sym (c .before .before .table .ensures)) options-sizes
 
 enum-known-k : tie.Need-enum-known-k
 enum-known-k c = search needs
@@ -24,12 +25,12 @@ enum-known-s c = search needs
 returns : tie.Need-returns
 returns c =
     let m = c .before .before .before in
-    size-is _ (m .before .start .ensures) (sym (ap stateOf (c .before .k .given .1)) ∙ m .measure-from .ensures)
+    size-is _ (m .before .before .before .table .ensures) _ (m .before .start .ensures) (sym (ap stateOf (c .before .k .given .1)) ∙ m .measure-from .ensures)
 
 returns-2 : tie.Need-returns-2
 returns-2 c =
     let m = c .before .before .before in
-    size-is _ (m .before .start .ensures) (sym (ap stateOf (c .before .s .given .1)) ∙ m .measure-from .ensures)
+    size-is _ (m .before .before .before .table .ensures) _ (m .before .start .ensures) (sym (ap stateOf (c .before .s .given .1)) ∙ m .measure-from .ensures)
 
 pub string-packsize-spec : {M : Type 1} → statement M
 string-packsize-spec =
