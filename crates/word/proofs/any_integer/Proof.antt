@@ -2,7 +2,6 @@
 use Rattle.word.proofs.Words.{says-integer, says-refused, small-word, small-none}
 use mathlib.Core.Path.{sym, ap, _∙_}
 use Rattle.numbers.specs.Meaning.{integerFound}
-use Rattle.word.proofs.Words.{small-word, small-none}
 use borrow.Author.Needs.{needs}
 use Rattle.word.proofs.any_integer.Statement.{statement}
 use Rattle.word.proofs.any_integer.Tie as tie
