@@ -105,6 +105,7 @@ pub fn list_bound(format: &[u8], data_length: u64) -> Measured
     if MAX_LENGTH < data_length {
         return Measured::Refused(21);
     }
+    // Copied once a call: each use of a constant copies it anew.
     let options = table();
     bound_by(&options, format, data_length)
 }

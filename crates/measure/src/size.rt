@@ -106,6 +106,7 @@ fn measure_from(table: &[u8; 256], format: &[u8], from: State) -> Stepped
 pub fn string_packsize(format: &[u8]) -> Measured
     ensures { λ r. ⌜ measuredOf r ≡ stringPacksize (now (format .entry)) ⌝ }
 {
+    // Copied once a call: each use of a constant copies it anew.
     let options = table();
     match measure_from(&options, format, start()) {
         Stepped::Refused(k) => Measured::Refused(k),

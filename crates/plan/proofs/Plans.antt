@@ -92,25 +92,25 @@ module _ (s : State) (f : Field) where
   unaligned l at e vs known = rw e
 
   module _ (p : ℕ) (e : padding s (natural f) ≡ accepted p) where
-    field-early : (vs : List definition.Value) (j : ℕ) → early s f ≡ refused j → writeOp (place s vs) (Op.Put f) ≡ refused j
+    field-early : (vs : List definition.Value) (j : ℕ) → early s f ≡ refused j → wrote s vs (Op.Put f) ≡ refused j
     unfolding writeOp writeField
     field-early vs j g = rw (e, g)
 
     module _ (u : State) (g : early s f ≡ accepted u) where
-      field-none : writeOp (place s []) (Op.Put f) ≡ refused 11
+      field-none : wrote s [] (Op.Put f) ≡ refused 11
       unfolding writeOp writeField
       field-none = rw (e, g)
 
       module _ (v : definition.Value) (vs : List definition.Value) where
-        field-refused : (j : ℕ) → encode (s .big) f v ≡ refused j → writeOp (place s (v ∷ vs)) (Op.Put f) ≡ refused j
+        field-refused : (j : ℕ) → encode (s .big) f v ≡ refused j → wrote s (v ∷ vs) (Op.Put f) ≡ refused j
         unfolding writeOp writeField
         field-refused j h = rw (e, g, h)
 
-        field-long : (bs : List ℕ) (j : ℕ) → encode (s .big) f v ≡ accepted bs → longer s (p + length bs) ≡ refused j → writeOp (place s (v ∷ vs)) (Op.Put f) ≡ refused j
+        field-long : (bs : List ℕ) (j : ℕ) → encode (s .big) f v ≡ accepted bs → longer s (p + length bs) ≡ refused j → wrote s (v ∷ vs) (Op.Put f) ≡ refused j
         unfolding writeOp writeField
         field-long bs j h w = rw (e, g, h, w)
 
-        field-put : (bs : List ℕ) (t : State) → encode (s .big) f v ≡ accepted bs → longer s (p + length bs) ≡ accepted t → writeOp (place s (v ∷ vs)) (Op.Put f) ≡ accepted (place t vs, output (pads p ++ map byte bs) ((f, v) ∷ []) 1)
+        field-put : (bs : List ℕ) (t : State) → encode (s .big) f v ≡ accepted bs → longer s (p + length bs) ≡ accepted t → wrote s (v ∷ vs) (Op.Put f) ≡ accepted (place t vs, output (pads p ++ map byte bs) ((f, v) ∷ []) 1)
         unfolding writeOp writeField
         field-put bs t h w = rw (e, g, h, w)
 

@@ -62,11 +62,8 @@ says-as n r h i = subst (λ (z : Checked ℤ). Says n z r) (sym i) h
 
 -- ---- ranges
 
-wide : (n : ℕ) → 8 ≤ n → 2 ^ 64 ≤ 256 ^ n
-wide n h = pow-le 8 n h
-
 pub signed-wide : (n : ℕ) (z : ℤ) → 8 ≤ n → SFits w64 z → inSigned n z ≡ true
-signed-wide n z h f = lt-ltb (extent z * 2) (256 ^ n) (omega (arith, extent-fits z f, wide n h))
+signed-wide n z h f = lt-ltb (extent z * 2) (256 ^ n) (omega (arith, extent-fits z f, pow-le 8 n h))
 
 -- a shift that stays inside 64 bits
 shifted : (k : ℕ) → k < 64 → (1 * 2 ^ k) % 18446744073709551616 ≡ 2 ^ k
@@ -92,7 +89,7 @@ pub unsigned-negative : (n : ℕ) (z : ℤ) → SFits w64 z → ltZ (toZ w64 (of
 unsigned-negative n z f h = ap (inUnsigned n) (negative z f h)
 
 pub unsigned-wide : (n : ℕ) (z : ℤ) → SFits w64 z → ltZ (toZ w64 (ofZ w64 z)) (pos 0) ≡ false → 8 ≤ n → inUnsigned n z ≡ true
-unsigned-wide n z f h w = ap (inUnsigned n) (positive z f h) ∙ lt-ltb (extent z) (256 ^ n) (omega (arith, extent-fits z f, wide n w))
+unsigned-wide n z f h w = ap (inUnsigned n) (positive z f h) ∙ lt-ltb (extent z) (256 ^ n) (omega (arith, extent-fits z f, pow-le 8 n w))
 
 pub unsigned-narrow : (n : ℕ) (z : ℤ) (e : ℕ) → SFits w64 z → ltZ (toZ w64 (ofZ w64 z)) (pos 0) ≡ false → n < 8 → e ≡ extent z → ltb e ((1 * 2 ^ (8 * n)) % 18446744073709551616) ≡ inUnsigned n z
 unsigned-narrow n z e f h l i = rw i (ap (ltb (extent z)) (shifted (8 * n) (omega arith) ∙ bits-of-bytes n) ∙ sym (ap (inUnsigned n) (positive z f h)))
@@ -164,7 +161,7 @@ module _ (w : Value) where
   unfolding word
   single-none n e = rw e
 
-some-none : {A : Type 0} {a : A} → some a ≡ none → ⊥
+pub some-none : {A : Type 0} {a : A} → some a ≡ none → ⊥
 some-none e = let x : _≡_ {A = ℕ} 0 1 = cc in omega arith
 
 -- a value without an integer: a float by its bits
@@ -209,12 +206,9 @@ double-word w n = go (asNumber w)
 pub same-bits : (a b : ℕ) → some a ≡ some b → a < 2 ^ 64 → b < 2 ^ 64
 same-bits a b e h = let i : a ≡ b = cc in omega arith
 
-pub no-bits : {b : ℕ} → some b ≡ none → ⊥
-no-bits e = some-none e
-
 -- ---- by the kind
-pub of-kind : {k j : Kind} (n : ℕ) (w : Value) (r : Word) → Says n (word j n w) r → k ≡ j → Says n (word k n w) r
-of-kind n w r h i = says-as n r h (ap (λ (x : Kind). word x n w) i)
+pub of-kind : {k j : Kind} (n : ℕ) (w : Value) (r : Word) → k ≡ j → Says n (word j n w) r → Says n (word k n w) r
+of-kind n w r i h = says-as n r h (ap (λ (x : Kind). word x n w) i)
 
 -- B and H are b and h but for what is read
 pub same-small : (n : ℕ) (w : Value) → word SmallSigned n w ≡ word SmallUnsigned n w
@@ -242,8 +236,8 @@ isPattern Size = true
 isPattern Single = true
 isPattern Double = true
 
-pub pattern-size : (k j : Kind) (n : ℕ) → T (validSize k n) → k ≡ j → T (isPattern j) → n ≤ 8
-pattern-size k j n h e p = go j (subst (λ (x : Kind). T (validSize x n)) e h) p
+pub of-pattern : {k : Kind} (j : Kind) (n : ℕ) (w : Value) (r : Word) → T (isPattern j) → T (validSize k n) → k ≡ j → ((m : ℕ) → m ≤ 8 → Says m (word j m w) r) → Says n (word k n w) r
+of-pattern j n w r p h e f = of-kind n w r e (f n (go j (subst (λ (x : Kind). T (validSize x n)) e h) p))
   where
     go : (j : Kind) → T (validSize j n) → T (isPattern j) → n ≤ 8
     go SmallSigned h p = absurd p

@@ -3,8 +3,7 @@ use Prim.Native.Nat.{ℕ, _≤_, _<_}
 use native.Mathlib.Omega.{arith}
 use mathlib.Core.Path.{_≡_, refl, sym, ap, _∙_, subst}
 use mathlib.Core.Bool.{true, false, _&&_}
-use mathlib.Core.List.{List, [], _++_}
-use native.Mathlib.Nat.{zero-add}
+use mathlib.Core.List.{List, _++_}
 use lib.ListN.{length, drop}
 use lib.Seq.{paste}
 use borrow.Author.Tests.{lt-leb}
@@ -17,7 +16,7 @@ use Rattle.definition.specs.Writing.{Output, Place, write}
 use Rattle.definition.specs.Calls.{Call, call, into, atMost63, pack, recordOf, continuedOf, packContinued, stringPack}
 use Rattle.definition.specs.declared.State.{State}
 use Rattle.definition.specs.declared.Continued.{Continued}
-use Rattle.definition.proofs.Answers.{never, same, same-number, bound}
+use Rattle.definition.proofs.Answers.{Bound, never, same, same-number, bound}
 use Rattle.definition.proofs.Calls.{Sound, pack-run, length-record, into-fits}
 use Rattle.definition.proofs.Cutting.{plain-is}
 use Rattle.values.specs.Meaning.{isAccepted}
@@ -29,7 +28,11 @@ use Rattle.write.specs.declared.Total.the-variants as Total
 use Rattle.write.specs.declared.Packed.{Packed}
 use Rattle.write.specs.declared.Packed.the-variants as Packed
 use Rattle.write.proofs.Stepping.{list-known}
-use Rattle.write.proofs.Pasting.{paste-front}
+use Rattle.write.proofs.Pasting.{paste-whole}
+
+-- what the call makes of a writing
+abbrev called : List ℕ → Checked (Place Value × Output) → Call Continued
+called b c = into b (c >>= λ r. accepted (continuedOf r, recordOf (r .1)))
 
 module _ (s : State) (f l b : List ℕ) where
   pub unsound : (isPower (s .limit) && atMost63 (s .length)) ≡ false → call (refused 21) b ≡ packContinued s f l b
@@ -45,23 +48,16 @@ module _ (s : State) (f l b : List ℕ) where
       run-is : pack s f l ≡ write s (valuesOf l) f
       run-is = pack-run s f l (valuesOf l) sound (list-known (values l) listed)
 
-      call-is : packContinued s f l b ≡ into b (write s (valuesOf l) f >>= λ r. accepted (continuedOf r, recordOf (r .1)))
+      call-is : packContinued s f l b ≡ called b (write s (valuesOf l) f)
       unfolding packContinued
-      call-is = ap (λ (c : Checked (Place Value × Output)). into b (c >>= λ r. accepted (continuedOf r, recordOf (r .1)))) run-is
+      call-is = ap (called b) run-is
 
       summed-refused : (c : Checked (Place Value × Output)) (k : ℕ) → refused k ≡ summed c → c ≡ refused k
       summed-refused (refused j) k e = ap refused (sym (same-number e))
       summed-refused (accepted r) k e = absurd (never e)
 
       refused-call : (k : ℕ) → refused k ≡ summed (write s (valuesOf l) f) → call (refused k) b ≡ packContinued s f l b
-      refused-call k e = sym (call-is ∙ ap (λ (c : Checked (Place Value × Output)). into b (c >>= λ r. accepted (continuedOf r, recordOf (r .1)))) (summed-refused (write s (valuesOf l) f) k e))
-
-      -- a writing that is accepted with the totals a
-      record Made (a : Continued) : Type 0 where
-        end : Place Value
-        made : Output
-        is : write s (valuesOf l) f ≡ accepted (end, made)
-        totals : continuedOf (end, made) ≡ a
+      refused-call k e = sym (call-is ∙ ap (called b) (summed-refused (write s (valuesOf l) f) k e))
 
       -- g is the buffer after the first pass, which is as it was
       module _ {g : List ℕ} (kept : g ≡ b) where
@@ -69,19 +65,20 @@ module _ (s : State) (f l b : List ℕ) where
         total-refused {r} {k} e h = rw (kept, e) (refused-call k (sym (ap totalIs e) ∙ h))
 
         module _ {r : Total} {a : Continued} (told : r ≡ Total.Of a) (e : totalIs r ≡ summed (write s (valuesOf l) f)) where
-          made : Made a
-          made = let q = bound (write s (valuesOf l) f) (λ r. accepted (continuedOf r)) (sym e ∙ ap totalIs told) in record { end = q .val .0; made = q .val .1; is = q .is; totals = same (q .rest) }
+          -- the writing that is accepted with the totals a
+          made : Bound (write s (valuesOf l) f) (λ r. accepted (continuedOf r)) a
+          made = bound (write s (valuesOf l) f) _ (sym e ∙ ap totalIs told)
 
-          size : length (made .made .cells) ≡ a .written
-          size = ap (λ (x : Continued). x .written) (made .totals)
+          size : length (made .val .1 .cells) ≡ a .written
+          size = ap (λ (x : Continued). x .written) (same (made .rest))
 
-          accepted-is : packContinued s f l b ≡ into b (accepted (continuedOf (made .end, made .made), recordOf (made .made)))
-          accepted-is = call-is ∙ ap (λ (c : Checked (Place Value × Output)). into b (c >>= λ r. accepted (continuedOf r, recordOf (r .1)))) (made .is)
+          accepted-is : packContinued s f l b ≡ called b (accepted (made .val))
+          accepted-is = call-is ∙ ap (called b) (made .is)
 
           pub short-call : length g < a .written → call (refused 22) g ≡ packContinued s f l b
           short-call h =
-              let n : length b < length (recordOf (made .made)) = omega (arith, ap length kept, length-record (made .made), size) in
-              ap (call (refused 22)) kept ∙ sym (accepted-is ∙ rw (lt-leb (length (recordOf (made .made))) (length b) n))
+              let n : length b < length (recordOf (made .val .1)) = omega (arith, ap length kept, length-record (made .val .1), size) in
+              ap (call (refused 22)) kept ∙ sym (accepted-is ∙ rw (lt-leb (length (recordOf (made .val .1))) (length b) n))
 
           module _ (h : a .written ≤ length g) where
             pub fits : FitsAt (length g) 0 (write s (valuesOf l) f)
@@ -90,12 +87,12 @@ module _ (s : State) (f l b : List ℕ) where
             -- the second pass makes d of it
             pub filled-call : {d : List ℕ} → d ≡ putAt g 0 (write s (valuesOf l) f) → call (accepted a) d ≡ packContinued s f l b
             filled-call {d} q =
-                let m = recordOf (made .made) in
-                let n : length m ≤ length b = omega (arith, ap length kept, length-record (made .made), size) in
+                let m = recordOf (made .val .1) in
+                let n : length m ≤ length b = omega (arith, ap length kept, length-record (made .val .1), size) in
                 let front : d ≡ m ++ drop (length m) b =
-                q ∙ ap (λ (x : List ℕ). putAt x 0 (write s (valuesOf l) f)) kept ∙ ap (putAt b 0) (made .is) ∙ ap (paste b 0 m) (sym (length-record (made .made)))
-                ∙ paste-front b [] 0 refl m (length m) refl ∙ ap (λ (k : ℕ). m ++ drop k b) (zero-add (length m)) in
-                ap (call (accepted a)) front ∙ sym (accepted-is ∙ into-fits b _ m n ∙ ap (λ (x : Continued). call (accepted x) (m ++ drop (length m) b)) (made .totals))
+                q ∙ ap (λ (x : List ℕ). putAt x 0 (write s (valuesOf l) f)) kept ∙ ap (putAt b 0) (made .is) ∙ ap (paste b 0 m) (sym (length-record (made .val .1)))
+                ∙ paste-whole b m (length m) refl in
+                ap (call (accepted a)) front ∙ sym (accepted-is ∙ into-fits b _ m n ∙ ap (λ (x : Continued). call (accepted x) (m ++ drop (length m) b)) (same (made .rest)))
 
 -- ---- plain writing: continued writing from the start state, and the record's length
 pub plain-call : (f l b d : List ℕ) {r q : Total} {s : State} → r ≡ q → s ≡ start → continuedIs r d ≡ packContinued s f l b → call (totalIs q >>= λ a. accepted (a .written)) d ≡ stringPack f l b

@@ -1,10 +1,10 @@
 -- Laws of stores into the record.
 use Prim.Native.Nat.{ℕ, _+_, _≤_}
 use native.Mathlib.Omega.{arith}
-use native.Mathlib.Nat.{add-assoc, le-of-eq}
-use mathlib.Core.Path.{_≡_, sym, ap, _∙_}
+use native.Mathlib.Nat.{zero-add, add-assoc, le-of-eq}
+use mathlib.Core.Path.{_≡_, refl, sym, ap, _∙_}
 use mathlib.Core.Bool.{Bool}
-use mathlib.Core.List.{List, _++_, append-assoc}
+use mathlib.Core.List.{List, [], _++_, append-assoc}
 use lib.ListN.{length, take, drop, replicate, length-append, length-replicate}
 use lib.Seq.{paste, length-paste, take-at, drop-at, drop-drop, take-all}
 use Rattle.definition.specs.Bytes.{laid}
@@ -19,6 +19,10 @@ pub paste-front : (d x : List ℕ) (n : ℕ) → length x ≡ n → (y : List �
 paste-front d x n e y m f =
     let rest : drop (n + m) (x ++ drop n d) ≡ drop (n + m) d = sym (drop-drop m n (x ++ drop n d)) ∙ ap (drop m) (drop-at x (drop n d) n e) ∙ drop-drop m n d in
     rw (take-at x (drop n d) n e, whole m y f, rest)
+
+-- y put at the front
+pub paste-whole : (d y : List ℕ) (m : ℕ) → length y ≡ m → paste d 0 y m ≡ y ++ drop m d
+paste-whole d y m e = paste-front d [] 0 refl y m e ∙ ap (λ (k : ℕ). y ++ drop k d) (zero-add m)
 
 -- ---- stores one after the other
 pasted : (d e f a b : List ℕ) (at m n : ℕ) → length a ≡ m → length b ≡ n → at + m + n ≤ length d → e ≡ paste d at a m → f ≡ paste e (at + m) b n → f ≡ paste d at (a ++ b) (m + n)

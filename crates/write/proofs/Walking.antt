@@ -1,10 +1,10 @@
 -- A pass over a format, item by item: what was written so far, and what the rest of the items does.
 use Prim.Native.Nat.{ℕ, _+_, _-_, _≤_, _<_}
-use native.Mathlib.Nat.{zero-add, add-zero}
+use native.Mathlib.Nat.{add-zero}
 use native.Mathlib.Omega.{arith}
 use mathlib.Core.Path.{_≡_, refl, sym, ap, _∙_, subst}
 use mathlib.Core.Bool.{Bool, true, false, cond}
-use mathlib.Core.List.{List, [], _++_}
+use mathlib.Core.List.{List, _++_}
 use mathlib.Core.Option.{none, some}
 use lib.Dec.{T}
 use lib.ListN.{length, drop, length-append}
@@ -28,7 +28,7 @@ use Rattle.format.specs.Steps.{nextAt}
 use Rattle.format.proofs.Walking.{stepItem, walk, Walked, at-item, walk-none, walk-end, walk-refusal, walk-refused, walk-on}
 use Rattle.write.specs.Walks.{valuesOf, summed, FitsAt, putAt, totalsOf, written, Moved}
 use Rattle.write.specs.declared.pass.Progress.{Progress}
-use Rattle.write.proofs.Pasting.{paste-front}
+use Rattle.write.proofs.Pasting.{paste-front, paste-whole}
 
 abbrev progress : State → ℕ → ℕ → ℕ → Progress
 progress s at u i = record { state = s; at = at; used = u; items = i }
@@ -86,12 +86,8 @@ module _ {f l : List ℕ} {s : State} {put : Bool} {d : List ℕ} {c : ℕ} {p :
   passing-end q =
       let all = walk-end writeOp nothing _⊕_ nothing-left nothing-right join-assoc (w .so-far) q in
       let k : p .state .length - s .length ≡ length (w .out .cells) = omega (arith, w .length-is) in
-      (sym (ap summed all ∙ rw (k, w .used, w .items-run)), w .buffer ∙ ap (λ (x : List ℕ). cond put x d) (sym (ap (putAt d 0) all ∙ front)))
-    where
-      front : paste d 0 (recordOf (w .out)) (length (w .out .cells)) ≡ fronted (w .out) d
-      front =
-          paste-front d [] 0 refl (recordOf (w .out)) (length (w .out .cells)) (length-record (w .out))
-          ∙ ap (λ (k : ℕ). recordOf (w .out) ++ drop k d) (zero-add (length (w .out .cells)))
+      let put-is = ap (putAt d 0) all ∙ paste-whole d (recordOf (w .out)) (length (w .out .cells)) (length-record (w .out)) in
+      (sym (ap summed all ∙ rw (k, w .used, w .items-run)), w .buffer ∙ ap (λ (x : List ℕ). cond put x d) (sym put-is))
 
   -- the item at the place does op, and the next one stands at the place n
   module _ {op : Op} {n : ℕ} (q : nextAt c (drop c f) ≡ accepted (some (op, n))) where

@@ -29,6 +29,7 @@ pub fn pack_continued(state: State, format: &[u8], list: &[u8], out: &mut [u8]) 
     if !is_list(list) {
         return Total::Refused(21);
     }
+    // Copied once a call: each use of a constant copies it anew.
     let table = OPTIONS;
     let total = pass(&table, format, list, state, out, false);
     let Total::Of(c) = total else {

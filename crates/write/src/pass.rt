@@ -34,7 +34,8 @@ pub struct Progress {
     pub items: u64,
 }
 
-// What an item leads to: the number of a refusal, nothing, or the next progress.
+// What an item leads to: the number of a refusal, nothing, or the next progress. A blank has a case of its own, which leaves
+// the loop's variables where they are (docs/COST.md has what that saves).
 pub enum Step {
     Refused(u8),
     Skip,

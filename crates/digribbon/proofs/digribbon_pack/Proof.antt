@@ -1,5 +1,4 @@
 -- What `string_pack` ensures is passed on, by the case of its answer.
-use denote.Ref.{now}
 use Rattle.write.specs.Answers.{packedIs}
 use Rattle.digribbon.specs.Answers.{word}
 use Rattle.digribbon.proofs.Seen.{seen}
@@ -23,13 +22,17 @@ same-length : tie.Need-same-length
 same-length c = search needs
 
 returns : tie.Need-returns
-returns c = seen word (now (c .before .before .before .before .before .before .before .before .before .before .args .answer)) (c .before .before .before .before .before .string-pack .last .1 .1 .0) packedIs (c .before .k .given .1) (c .before .before .before .before .before .string-pack .ensures)
+returns c =
+    let p = c .before .before .before .before .before in
+    seen word (p .before .before .before .before .before .args .answer .now) (p .string-pack .last .1 .1 .0) packedIs (c .before .k .given .1) (p .string-pack .ensures)
 
 same-length-2 : tie.Need-same-length-2
 same-length-2 c = search needs
 
 returns-2 : tie.Need-returns-2
-returns-2 c = seen word (now (c .before .before .before .before .before .before .before .before .before .before .before .args .answer)) (c .before .before .before .before .before .before .string-pack .last .1 .1 .0) packedIs (c .before .before .length .given .1) (c .before .before .before .before .before .before .string-pack .ensures)
+returns-2 c =
+    let p = c .before .before .before .before .before .before in
+    seen word (p .before .before .before .before .before .args .answer .now) (p .string-pack .last .1 .1 .0) packedIs (c .before .before .length .given .1) (p .string-pack .ensures)
 
 pub digribbon-pack-spec : {M : Type 1} → statement M
 digribbon-pack-spec =

@@ -1,15 +1,16 @@
 -- What the plan says is where the pass comes to, and what it puts.
-use mathlib.Core.Path.{ap, _∙_}
+use mathlib.Core.Path.{_≡_, ap, _∙_}
 use native.Mathlib.Omega.{arith}
+use Rattle.plan.specs.declared.item.Plan.{Plan}
 use Rattle.write.specs.Walks.{passed}
 use Rattle.write.proofs.Stepping.{At, planned, as-plan, number-put, text-put, moved-skip, moved-set, moved-zeros, moved-value, zeros-room, value-room, refused-put, none-put, zeros-put, value-bytes-put}
 use borrow.Author.Needs.{needs}
 use Rattle.write.proofs.pass.advance.Statement.{statement}
 use Rattle.write.proofs.pass.advance.Tie as tie
 
--- the item's plan
-plan : (c : tie.After-plan-of) → let a = c .before .before .before .before .args in At (a .list .now) (a .p) (a .op) (c .plan-of .result)
-plan c = planned _ _ _ _ (c .before .before .before .before .pre .1 .0) (c .plan-of .ensures)
+-- the item's plan, where it is told to be r
+plan : (c : tie.After-plan-of) {r : Plan} → c .plan-of .result ≡ r → let a = c .before .before .before .before .args in At (a .list .now) (a .p) (a .op) r
+plan c e = as-plan (planned _ _ _ _ (c .before .before .before .before .pre .1 .0) (c .plan-of .ensures)) e
 
 plan-of-requires : tie.Need-plan-of-requires
 plan-of-requires c κs = let s = c .before .before .before in (s .pre .0, (s .pre .1 .0, s .pre .1 .1 .1 .1 .0))
@@ -36,12 +37,12 @@ emit-zeros-requires : tie.Need-emit-zeros-requires
 emit-zeros-requires c κs =
     let x = c .before .before in
     let s = x .before .before .before .before .before .before in
-    zeros-room (as-plan (plan (x .before .before)) (x .n .given .1)) (s .args .put) _ (s .args .w) (s .pre .1 .1 .1 .1 .1)
+    zeros-room (plan (x .before .before) (x .n .given .1)) (s .args .put) _ (s .args .w) (s .pre .1 .1 .1 .1 .1)
 
 further-requires : tie.Need-further-requires
 further-requires c κs =
     let x = c .before .before .before .before .before in
-    (as-plan (plan (x .before .before)) (x .n .given .1)) .says .room
+    (plan (x .before .before) (x .n .given .1)) .says .room
 
 past-requires-2 : tie.Need-past-requires-2
 past-requires-2 c κs = c .before .before .before .before .before .before .before .before .before .before .before .before .pre .1 .1 .0
@@ -53,18 +54,18 @@ emit-number-requires : tie.Need-emit-number-requires
 emit-number-requires c κs =
     let x = c .before .before in
     let s = x .before .before .before .before .before .before in
-    value-room (number-put (as-plan (plan (x .before .before)) (x .n2 .given .1))) (s .args .put) _ (s .args .w) (s .pre .1 .1 .1 .1 .1)
+    value-room (number-put (plan (x .before .before) (x .n2 .given .1))) (s .args .put) _ (s .args .w) (s .pre .1 .1 .1 .1 .1)
 
 add-past-value : tie.Need-add-past-value
 add-past-value c =
     let x = c .before .before .before .before .before in
-    omega (arith, (as-plan (plan (x .before .before)) (x .n2 .given .1)) .says .room)
+    omega (arith, (plan (x .before .before) (x .n2 .given .1)) .says .room)
 
 past-value-requires : tie.Need-past-value-requires
 past-value-requires c κs =
     let x = c .before .before .before .before .before in
     let s = x .before .before .before .before .before .before in
-    (s .pre .1 .1 .0, (s .pre .1 .1 .1 .0, (as-plan (plan (x .before .before)) (x .n2 .given .1)) .says .room))
+    (s .pre .1 .1 .0, (s .pre .1 .1 .1 .0, (plan (x .before .before) (x .n2 .given .1)) .says .room))
 
 enum-known-n-3 : tie.Need-enum-known-n-3
 enum-known-n-3 c = search needs
@@ -72,48 +73,48 @@ enum-known-n-3 c = search needs
 emit-text-requires : tie.Need-emit-text-requires
 emit-text-requires c κs =
     let x = c .before .before in
-    let h = as-plan (plan (x .before .before)) (x .n3 .given .1) in
+    let h = plan (x .before .before) (x .n3 .given .1) in
     let s = x .before .before .before .before .before .before in
     (value-room (text-put h) (s .args .put) _ (s .args .w) (s .pre .1 .1 .1 .1 .1), h .says .1)
 
 add-past-value-2 : tie.Need-add-past-value-2
 add-past-value-2 c =
     let x = c .before .before .before .before .before in
-    omega (arith, (as-plan (plan (x .before .before)) (x .n3 .given .1)) .says .0 .room)
+    omega (arith, (plan (x .before .before) (x .n3 .given .1)) .says .0 .room)
 
 add-past-value-3 : tie.Need-add-past-value-3
 add-past-value-3 c =
     let x = c .before .before .before .before .before in
-    omega (arith, (as-plan (plan (x .before .before)) (x .n3 .given .1)) .says .0 .room)
+    omega (arith, (plan (x .before .before) (x .n3 .given .1)) .says .0 .room)
 
 add-past-value-4 : tie.Need-add-past-value-4
 add-past-value-4 c =
     let x = c .before .before .before .before .before in
-    omega (arith, (as-plan (plan (x .before .before)) (x .n3 .given .1)) .says .0 .room)
+    omega (arith, (plan (x .before .before) (x .n3 .given .1)) .says .0 .room)
 
 past-value-requires-2 : tie.Need-past-value-requires-2
 past-value-requires-2 c κs =
     let x = c .before .before .before .before .before in
     let s = x .before .before .before .before .before .before in
-    (s .pre .1 .1 .0, (s .pre .1 .1 .1 .0, (as-plan (plan (x .before .before)) (x .n3 .given .1)) .says .0 .room))
+    (s .pre .1 .1 .0, (s .pre .1 .1 .1 .0, (plan (x .before .before) (x .n3 .given .1)) .says .0 .room))
 
 returns : tie.Need-returns
 returns c =
     let x = c .before in
-    let h = as-plan (plan (x .before .before)) (x .k .given .1) in
+    let h = plan (x .before .before) (x .k .given .1) in
     let a = x .before .before .before .before .before .before .args in
     (h .says, refused-put (a .put) (a .out .now) (a .w) (h .says))
 
 returns-2 : tie.Need-returns-2
 returns-2 c =
-    let h = as-plan (plan (c .before .before)) (c .enum-told .given .1) in
+    let h = plan (c .before .before) (c .enum-told .given .1) in
     let a = c .before .before .before .before .before .before .args in
     (moved-skip h, none-put (a .put) (a .out .now) (a .w) (h .says))
 
 returns-3 : tie.Need-returns-3
 returns-3 c =
     let x = c .before .before .before in
-    let h = as-plan (plan (x .before .before)) (x .x .given .1) in
+    let h = plan (x .before .before) (x .x .given .1) in
     let a = x .before .before .before .before .before .before .args in
     (moved-set h (c .past .ensures ∙ ap (passed (a .p)) (c .before .set .ensures)), none-put (a .put) (a .out .now) (a .w) (h .says))
 
@@ -123,7 +124,7 @@ same-length c = search needs
 returns-4 : tie.Need-returns-4
 returns-4 c =
     let x = c .before .before .before .before .before .before .before in
-    let h = as-plan (plan (x .before .before)) (x .n .given .1) in
+    let h = plan (x .before .before) (x .n .given .1) in
     let a = x .before .before .before .before .before .before .args in
     (moved-zeros h (c .past2 .ensures ∙ ap (passed (a .p)) (c .before .further .ensures)), zeros-put h (a .put) (a .out .now) (a .w) (c .before .before .before .before .emit-zeros .ensures))
 
@@ -133,7 +134,7 @@ same-length-2 c = search needs
 returns-5 : tie.Need-returns-5
 returns-5 c =
     let x = c .before .before .before .before .before .before in
-    let v = number-put (as-plan (plan (x .before .before)) (x .n2 .given .1)) in
+    let v = number-put (plan (x .before .before) (x .n2 .given .1)) in
     let a = x .before .before .before .before .before .before .args in
     (moved-value v (c .past-value .ensures), value-bytes-put v (a .put) (a .out .now) (a .w) (c .before .before .before .emit-number .ensures))
 
@@ -143,7 +144,7 @@ same-length-3 c = search needs
 returns-6 : tie.Need-returns-6
 returns-6 c =
     let x = c .before .before .before .before .before .before in
-    let v = text-put (as-plan (plan (x .before .before)) (x .n3 .given .1)) in
+    let v = text-put (plan (x .before .before) (x .n3 .given .1)) in
     let a = x .before .before .before .before .before .before .args in
     (moved-value v (c .past-value2 .ensures), value-bytes-put v (a .put) (a .out .now) (a .w) (c .before .before .before .emit-text .ensures))
 
