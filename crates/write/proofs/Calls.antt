@@ -8,6 +8,7 @@ use lib.ListN.{length, drop}
 use lib.Seq.{paste}
 use borrow.Author.Tests.{lt-leb}
 use Rattle.definition.specs.Answers.{Checked, refused, accepted, _>>=_}
+use Rattle.definition.specs.Options.{Table, options}
 use Rattle.definition.specs.Ops.{isPower}
 use Rattle.definition.specs.Values.{Value}
 use Rattle.definition.specs.Lists.{values}
@@ -34,7 +35,8 @@ use Rattle.write.proofs.Pasting.{paste-whole}
 abbrev called : List ℕ → Checked (Place Value × Output) → Call Continued
 called b c = into b (c >>= λ r. accepted (continuedOf r, recordOf (r .1)))
 
-module _ (s : State) (f l b : List ℕ) where
+-- by a table t that is the option table
+module _ (t : Table) (is : t ≡ options) (s : State) (f l b : List ℕ) where
   pub unsound : (isPower (s .limit) && atMost63 (s .length)) ≡ false → call (refused 21) b ≡ packContinued s f l b
   unfolding pack packContinued
   unsound h = rw h
@@ -45,10 +47,10 @@ module _ (s : State) (f l b : List ℕ) where
     malformed h = rw (sound, refused-list l h)
 
     module _ (listed : isAccepted (values l) ≡ true) where
-      run-is : pack s f l ≡ write s (valuesOf l) f
-      run-is = pack-run s f l (valuesOf l) sound (list-known (values l) listed)
+      run-is : pack s f l ≡ write t s (valuesOf l) f
+      run-is = rw is (pack-run s f l (valuesOf l) sound (list-known (values l) listed))
 
-      call-is : packContinued s f l b ≡ called b (write s (valuesOf l) f)
+      call-is : packContinued s f l b ≡ called b (write t s (valuesOf l) f)
       unfolding packContinued
       call-is = ap (called b) run-is
 
@@ -56,18 +58,18 @@ module _ (s : State) (f l b : List ℕ) where
       summed-refused (refused j) k e = ap refused (sym (same-number e))
       summed-refused (accepted r) k e = absurd (never e)
 
-      refused-call : (k : ℕ) → refused k ≡ summed (write s (valuesOf l) f) → call (refused k) b ≡ packContinued s f l b
-      refused-call k e = sym (call-is ∙ ap (called b) (summed-refused (write s (valuesOf l) f) k e))
+      refused-call : (k : ℕ) → refused k ≡ summed (write t s (valuesOf l) f) → call (refused k) b ≡ packContinued s f l b
+      refused-call k e = sym (call-is ∙ ap (called b) (summed-refused (write t s (valuesOf l) f) k e))
 
       -- g is the buffer after the first pass, which is as it was
       module _ {g : List ℕ} (kept : g ≡ b) where
-        pub total-refused : {r : Total} {k : ℕ} → r ≡ Total.Refused k → totalIs r ≡ summed (write s (valuesOf l) f) → continuedIs r g ≡ packContinued s f l b
+        pub total-refused : {r : Total} {k : ℕ} → r ≡ Total.Refused k → totalIs r ≡ summed (write t s (valuesOf l) f) → continuedIs r g ≡ packContinued s f l b
         total-refused {r} {k} e h = rw (kept, e) (refused-call k (sym (ap totalIs e) ∙ h))
 
-        module _ {r : Total} {a : Continued} (told : r ≡ Total.Of a) (e : totalIs r ≡ summed (write s (valuesOf l) f)) where
+        module _ {r : Total} {a : Continued} (told : r ≡ Total.Of a) (e : totalIs r ≡ summed (write t s (valuesOf l) f)) where
           -- the writing that is accepted with the totals a
-          made : Bound (write s (valuesOf l) f) (λ r. accepted (continuedOf r)) a
-          made = bound (write s (valuesOf l) f) _ (sym e ∙ ap totalIs told)
+          made : Bound (write t s (valuesOf l) f) (λ r. accepted (continuedOf r)) a
+          made = bound (write t s (valuesOf l) f) _ (sym e ∙ ap totalIs told)
 
           size : length (made .val .1 .cells) ≡ a .written
           size = ap (λ (x : Continued). x .written) (same (made .rest))
@@ -81,16 +83,16 @@ module _ (s : State) (f l b : List ℕ) where
               ap (call (refused 22)) kept ∙ sym (accepted-is ∙ rw (lt-leb (length (recordOf (made .val .1))) (length b) n))
 
           module _ (h : a .written ≤ length g) where
-            pub fits : FitsAt (length g) 0 (write s (valuesOf l) f)
+            pub fits : FitsAt (length g) 0 (write t s (valuesOf l) f)
             fits = subst (FitsAt (length g) 0) (sym (made .is)) (omega (arith, size))
 
             -- the second pass makes d of it
-            pub filled-call : {d : List ℕ} → d ≡ putAt g 0 (write s (valuesOf l) f) → call (accepted a) d ≡ packContinued s f l b
+            pub filled-call : {d : List ℕ} → d ≡ putAt g 0 (write t s (valuesOf l) f) → call (accepted a) d ≡ packContinued s f l b
             filled-call {d} q =
                 let m = recordOf (made .val .1) in
                 let n : length m ≤ length b = omega (arith, ap length kept, length-record (made .val .1), size) in
                 let front : d ≡ m ++ drop (length m) b =
-                q ∙ ap (λ (x : List ℕ). putAt x 0 (write s (valuesOf l) f)) kept ∙ ap (putAt b 0) (made .is) ∙ ap (paste b 0 m) (sym (length-record (made .val .1)))
+                q ∙ ap (λ (x : List ℕ). putAt x 0 (write t s (valuesOf l) f)) kept ∙ ap (putAt b 0) (made .is) ∙ ap (paste b 0 m) (sym (length-record (made .val .1)))
                 ∙ paste-whole b m (length m) refl in
                 ap (call (accepted a)) front ∙ sym (accepted-is ∙ into-fits b _ m n ∙ ap (λ (x : Continued). call (accepted x) (m ++ drop (length m) b)) (same (made .rest)))
 

@@ -10,10 +10,11 @@ use lib.Dec.{T}
 use lib.ListN.{length, drop, length-append}
 use lib.Seq.{paste}
 use Rattle.definition.specs.Answers.{Checked, refused, accepted, after}
-use Rattle.definition.specs.Items.{items}
+use Rattle.definition.specs.Options.{Table}
+use Rattle.definition.specs.Ops.{ops}
 use Rattle.definition.specs.Values.{Value}
 use Rattle.definition.specs.Lists.{values}
-use Rattle.definition.specs.Writing.{zeroed, Output, nothing, _⊕_, Place, place, writeOp, writeItem, write}
+use Rattle.definition.specs.Writing.{zeroed, Output, nothing, _⊕_, Place, place, writeOp, writing, write}
 use Rattle.definition.specs.Calls.{recordOf}
 use Rattle.definition.specs.declared.Continued.{Continued}
 use Rattle.definition.specs.declared.State.{State}
@@ -21,11 +22,11 @@ use Rattle.definition.specs.declared.Op.{Op}
 use Rattle.definition.proofs.Calls.{Sound, step-sound, length-record}
 use Rattle.definition.proofs.Cells.{map-append}
 use Rattle.definition.proofs.Cutting.{nothing-left, nothing-right, join-assoc}
-use Rattle.definition.proofs.Ops.{validOp, op-valid}
+use Rattle.definition.proofs.Ops.{validOp, Sizes}
 use Rattle.definition.proofs.Steps.{length-step, step-of}
 use Rattle.values.specs.Meaning.{isAccepted}
 use Rattle.format.specs.Steps.{nextAt}
-use Rattle.format.proofs.Walking.{stepItem, walk, Walked, at-item, walk-none, walk-end, walk-refusal, walk-refused, walk-on}
+use Rattle.format.proofs.Walking.{Walked, valid, ahead, walk-none, walk-end, walk-refusal, walk-refused, walk-on}
 use Rattle.write.specs.Walks.{valuesOf, summed, FitsAt, putAt, totalsOf, written, Moved}
 use Rattle.write.specs.declared.pass.Progress.{Progress}
 use Rattle.write.proofs.Pasting.{paste-front, paste-whole}
@@ -43,11 +44,11 @@ fronted o d = recordOf o ++ drop (length (o .cells)) d
 
 -- From the state s, writing the format f with the list l has come to the place c of f, and to p: what is written is `out`, and
 -- with `put` the buffer, which was d, is b.
-pub record Passing (f l : List ℕ) (s : State) (put : Bool) (d : List ℕ) (c : ℕ) (p : Progress) (b : List ℕ) : Type 0 where
+pub record Passing (t : Table) (f l : List ℕ) (s : State) (put : Bool) (d : List ℕ) (c : ℕ) (p : Progress) (b : List ℕ) : Type 0 where
   pub out : Output
   pub known : isAccepted (values (drop (p .at) l)) ≡ true
   pub sound : Sound (p .state)
-  pub so-far : Walked writeOp nothing _⊕_ (write s (valuesOf l) f) f c (placeOf l p) out
+  pub so-far : Walked writeOp nothing _⊕_ t (write t s (valuesOf l) f) f c (placeOf l p) out
   pub length-is : p .state .length ≡ s .length + length (out .cells)
   pub used : p .used ≡ length (out .took)
   pub items-run : p .items ≡ out .items
@@ -59,17 +60,16 @@ pub record Passing (f l : List ℕ) (s : State) (put : Bool) (d : List ℕ) (c :
 abbrev Ends : Checked (Place Value × Output) → Bool → List ℕ → Checked Continued → List ℕ → Type 0
 Ends whole put d a g = (a ≡ summed whole) × (g ≡ cond put (putAt d 0 whole) d)
 
-either : (t : Bool) (x : List ℕ) → x ≡ cond t x x
+either : (b : Bool) (x : List ℕ) → x ≡ cond b x x
 either true x = refl
 either false x = refl
 
-pub passing-none : (f l : List ℕ) (s : State) (put : Bool) (d : List ℕ) (c : ℕ) → c ≡ 0 → isAccepted (values l) ≡ true → Sound s → Passing f l s put d c (progress s 0 0 0) d
-unfolding writeItem
-passing-none f l s put d c e h sound = record {
+pub passing-none : (t : Table) (f l : List ℕ) (s : State) (put : Bool) (d : List ℕ) (c : ℕ) → c ≡ 0 → isAccepted (values l) ≡ true → Sound s → Passing t f l s put d c (progress s 0 0 0) d
+passing-none t f l s put d c e h sound = record {
   out = nothing;
   known = h;
   sound = sound;
-  so-far = walk-none writeOp nothing _⊕_ nothing-left nothing-right join-assoc f c (place s (valuesOf l)) e;
+  so-far = walk-none writeOp nothing _⊕_ nothing-left nothing-right join-assoc t f c (place s (valuesOf l)) e;
   length-is = sym (add-zero (s .length));
   used = refl;
   items-run = refl;
@@ -78,11 +78,11 @@ passing-none f l s put d c e h sound = record {
   buffer = either put d;
 }
 
-module _ {f l : List ℕ} {s : State} {put : Bool} {d : List ℕ} {c : ℕ} {p : Progress} {b : List ℕ} (w : Passing f l s put d c p b) where
+module _ {t : Table} {f l : List ℕ} {s : State} {put : Bool} {d : List ℕ} {c : ℕ} {p : Progress} {b : List ℕ} (w : Passing t f l s put d c p b) where
   pub passing-length : s .length ≤ p .state .length
   passing-length = omega (arith, w .length-is)
 
-  pub passing-end : nextAt c (drop c f) ≡ accepted none → Ends (write s (valuesOf l) f) put d (accepted (totalsOf p (s .length))) b
+  pub passing-end : nextAt t c (drop c f) ≡ accepted none → Ends (write t s (valuesOf l) f) put d (accepted (totalsOf p (s .length))) b
   passing-end q =
       let all = walk-end writeOp nothing _⊕_ nothing-left nothing-right join-assoc (w .so-far) q in
       let k : p .state .length - s .length ≡ length (w .out .cells) = omega (arith, w .length-is) in
@@ -90,20 +90,20 @@ module _ {f l : List ℕ} {s : State} {put : Bool} {d : List ℕ} {c : ℕ} {p :
       (sym (ap summed all ∙ rw (k, w .used, w .items-run)), w .buffer ∙ ap (λ (x : List ℕ). cond put x d) (sym put-is))
 
   -- the item at the place does op, and the next one stands at the place n
-  module _ {op : Op} {n : ℕ} (q : nextAt c (drop c f) ≡ accepted (some (op, n))) where
+  module _ {op : Op} {n : ℕ} (q : nextAt t c (drop c f) ≡ accepted (some (op, n))) where
     pub item-ahead : (c < n) × (n ≤ length f)
-    item-ahead = let t = at-item f c op n q in (t .ahead, t .inside)
+    item-ahead = ahead t f c q
 
-    pub item-valid : T (validOp op)
-    item-valid = let t = at-item f c op n q in op-valid (t .first) op (t .does)
+    pub item-valid : Sizes t → T (validOp op)
+    item-valid sizes = valid t f c q sizes
 
-    pub passing-on : {r : Progress} {g : List ℕ} → Moved l p op r → g ≡ cond put (putAt b (p .state .length - s .length) (written l p op)) b → Passing f l s put d n r g
-    passing-on {r} m h =
+    pub passing-on : {r : Progress} {g : List ℕ} → Sizes t → Moved l p op r → g ≡ cond put (putAt b (p .state .length - s .length) (written l p op)) b → Passing t f l s put d n r g
+    passing-on {r} sizes m h =
         let step = step-of (placeOf l p) op (placeOf l r, m .out) (m .is) in
         record {
           out = w .out ⊕ m .out;
           known = m .known;
-          sound = step-sound (placeOf l p) op (placeOf l r) (m .out) step item-valid (w .sound);
+          sound = step-sound (placeOf l p) op (placeOf l r) (m .out) step (item-valid sizes) (w .sound);
           so-far = walk-on writeOp nothing _⊕_ nothing-left nothing-right join-assoc (w .so-far) q (m .is);
           length-is = omega (arith, w .length-is, length-append (w .out .cells) (m .out .cells), length-step (placeOf l p) op (placeOf l r) (m .out) step);
           used = m .used ∙ ap (λ (n : ℕ). n + length (m .out .took)) (w .used) ∙ sym (length-append (w .out .took) (m .out .took));
@@ -134,19 +134,19 @@ module _ {f l : List ℕ} {s : State} {put : Bool} {d : List ℕ} {c : ℕ} {p :
             ∙ ap (λ (v : ℕ). recordOf (w .out ⊕ m .out) ++ drop v d) (sym (length-append (w .out .cells) (m .out .cells)))
 
   -- with `put`, the whole is accepted, and its bytes fit
-  module _ (fits : put ≡ true → FitsAt (length d) 0 (write s (valuesOf l) f)) where
-    ends-refused : {k : ℕ} → write s (valuesOf l) f ≡ refused k → Ends (write s (valuesOf l) f) put d (refused k) b
+  module _ (fits : put ≡ true → FitsAt (length d) 0 (write t s (valuesOf l) f)) where
+    ends-refused : {k : ℕ} → write t s (valuesOf l) f ≡ refused k → Ends (write t s (valuesOf l) f) put d (refused k) b
     ends-refused e = (sym (ap summed e), w .buffer ∙ go put fits)
       where
-        go : (t : Bool) → (t ≡ true → FitsAt (length d) 0 (write s (valuesOf l) f)) → cond t (fronted (w .out) d) d ≡ cond t (putAt d 0 (write s (valuesOf l) f)) d
+        go : (x : Bool) → (x ≡ true → FitsAt (length d) 0 (write t s (valuesOf l) f)) → cond x (fronted (w .out) d) d ≡ cond x (putAt d 0 (write t s (valuesOf l) f)) d
         go true h = absurd (subst (FitsAt (length d) 0) e (h refl))
         go false h = refl
 
-    pub passing-refusal : {k : ℕ} → nextAt c (drop c f) ≡ refused k → Ends (write s (valuesOf l) f) put d (refused k) b
+    pub passing-refusal : {k : ℕ} → nextAt t c (drop c f) ≡ refused k → Ends (write t s (valuesOf l) f) put d (refused k) b
     passing-refusal q = ends-refused (walk-refusal writeOp nothing _⊕_ nothing-left nothing-right join-assoc (w .so-far) q)
 
-    module _ {op : Op} {n : ℕ} (q : nextAt c (drop c f) ≡ accepted (some (op, n))) where
-      pub passing-refused : {k : ℕ} {g : List ℕ} (m : ℕ) → written l p op ≡ refused k → g ≡ cond put (putAt b m (written l p op)) b → Ends (write s (valuesOf l) f) put d (refused k) g
+    module _ {op : Op} {n : ℕ} (q : nextAt t c (drop c f) ≡ accepted (some (op, n))) where
+      pub passing-refused : {k : ℕ} {g : List ℕ} (m : ℕ) → written l p op ≡ refused k → g ≡ cond put (putAt b m (written l p op)) b → Ends (write t s (valuesOf l) f) put d (refused k) g
       passing-refused m e h =
           let r = ends-refused (walk-refused writeOp nothing _⊕_ nothing-left nothing-right join-assoc (w .so-far) q e) in
           (r .0, h ∙ ap (λ (x : Checked (Place Value × Output)). cond put (putAt b m x) b) e ∙ sym (either put b) ∙ r .1)
@@ -157,13 +157,13 @@ module _ {f l : List ℕ} {s : State} {put : Bool} {d : List ℕ} {c : ℕ} {p :
         where
           go : (x : Checked (Place Value × Output)) → written l p op ≡ x → FitsAt m (p .state .length - s .length) x
           go (refused k) e = subst (FitsAt (length d) 0) (walk-refused writeOp nothing _⊕_ nothing-left nothing-right join-assoc (w .so-far) q e) (fits j)
-          go (accepted (t, a)) e = rest (walk writeOp nothing _⊕_ t (items (drop n f))) refl
+          go (accepted (u, a)) e = rest (writing u (ops t (drop n f))) refl
             where
-              rest : (y : Checked (Place Value × Output)) → walk writeOp nothing _⊕_ t (items (drop n f)) ≡ y → (p .state .length - s .length) + length (a .cells) ≤ m
+              rest : (y : Checked (Place Value × Output)) → writing u (ops t (drop n f)) ≡ y → (p .state .length - s .length) + length (a .cells) ≤ m
               rest y g =
-                  let so = walk-on writeOp nothing _⊕_ nothing-left nothing-right join-assoc (w .so-far) q e .is ∙ ap (after (stepItem writeOp nothing _⊕_) nothing _⊕_ (w .out ⊕ a)) g in
+                  let so = walk-on writeOp nothing _⊕_ nothing-left nothing-right join-assoc (w .so-far) q e .is ∙ ap (after writeOp nothing _⊕_ (w .out ⊕ a)) g in
                   last y (subst (FitsAt (length d) 0) so (fits j))
                 where
-                  last : (z : Checked (Place Value × Output)) → FitsAt (length d) 0 (after (stepItem writeOp nothing _⊕_) nothing _⊕_ (w .out ⊕ a) z) → (p .state .length - s .length) + length (a .cells) ≤ m
+                  last : (z : Checked (Place Value × Output)) → FitsAt (length d) 0 (after writeOp nothing _⊕_ (w .out ⊕ a) z) → (p .state .length - s .length) + length (a .cells) ≤ m
                   last (refused k) z = absurd z
-                  last (accepted u) z = omega (arith, w .length-is, length-append (w .out .cells ++ a .cells) (u .1 .cells), length-append (w .out .cells) (a .cells))
+                  last (accepted v) z = omega (arith, w .length-is, length-append (w .out .cells ++ a .cells) (v .1 .cells), length-append (w .out .cells) (a .cells))

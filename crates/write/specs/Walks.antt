@@ -6,7 +6,6 @@ use mathlib.Core.List.{List, []}
 use lib.ListN.{length, drop}
 use lib.Seq.{paste}
 use Rattle.definition.specs.Answers.{Checked, refused, accepted, _>>=_}
-use Rattle.definition.specs.Items.{items}
 use Rattle.definition.specs.Values.{Value}
 use Rattle.definition.specs.Lists.{values}
 use Rattle.definition.specs.States.{further}

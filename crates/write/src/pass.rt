@@ -20,9 +20,9 @@ ghost use lib.ListN.{length, drop};
 ghost use Rattle.definition.specs.Lists.{values};
 ghost use Rattle.definition.specs.Writing as writing;
 ghost use Rattle.definition.proofs.Calls.{Sound};
-ghost use Rattle.definition.proofs.Ops.{validOp};
+ghost use Rattle.definition.proofs.Ops.{validOp, Sizes};
 ghost use Rattle.values.specs.Meaning.{isAccepted};
-ghost use Rattle.format.specs.Packed.{packed};
+ghost use Rattle.format.specs.Packed.{tableAt};
 ghost use Rattle.write.specs.Answers.{totalIs};
 ghost use Rattle.write.specs.Walks.{passed, taken, totalsOf, valuesOf, summed, written, FitsAt, putAt, Stepped};
 
@@ -40,8 +40,6 @@ pub enum Step {
     Refused(u8),
     Skip,
     To(Progress),
-}
-
 }
 
 // Past an item without a value, to a state.
@@ -131,9 +129,9 @@ pub fn pass(
     out: &mut [u8],
     put: bool,
 ) -> Total
-    requires { ⌜ now table ≡ packed ⌝ ∗ ⌜ isAccepted (values (now list)) ≡ true ⌝ ∗ ⌜ Sound start ⌝ ∗ ⌜ (put ≡ true → FitsAt (length (now out)) 0 (writing.write start (valuesOf (now list)) (now format))) ⌝ }
-    ensures total { λ r. ⌜ totalIs r ≡ summed (writing.write start (valuesOf (now (list .entry))) (now (format .entry))) ⌝ }
-    ensures bytes { λ r. ⌜ now (out .exit) ≡ cond put (putAt (now (out .entry)) 0 (writing.write start (valuesOf (now (list .entry))) (now (format .entry)))) (now (out .entry)) ⌝ }
+    requires { ⌜ Sizes (tableAt (now table)) ⌝ ∗ ⌜ isAccepted (values (now list)) ≡ true ⌝ ∗ ⌜ Sound start ⌝ ∗ ⌜ (put ≡ true → FitsAt (length (now out)) 0 (writing.write (tableAt (now table)) start (valuesOf (now list)) (now format))) ⌝ }
+    ensures total { λ r. ⌜ totalIs r ≡ summed (writing.write (tableAt (now (table .entry))) start (valuesOf (now (list .entry))) (now (format .entry))) ⌝ }
+    ensures bytes { λ r. ⌜ now (out .exit) ≡ cond put (putAt (now (out .entry)) 0 (writing.write (tableAt (now (table .entry))) start (valuesOf (now (list .entry))) (now (format .entry)))) (now (out .entry)) ⌝ }
 {
     let base = start.length;
     let mut c = Cursor::new();

@@ -7,6 +7,7 @@ use native.Mathlib.Omega.{arith}
 use lib.ListN.{length, drop}
 use Rattle.definition.specs.Answers.{accepted}
 use Rattle.definition.specs.declared.Op.{Op}
+use Rattle.format.specs.Packed.{tableAt}
 use Rattle.format.specs.Steps.{nextAt, nextOf}
 use Rattle.write.proofs.Walking.{Passing, passing-none, passing-length, passing-end, passing-refusal, passing-refused, passing-fits, passing-on, item-ahead, item-valid}
 use borrow.Author.Needs.{needs}
@@ -14,14 +15,14 @@ use Rattle.write.proofs.pass.pass.Statement.{statement}
 use Rattle.write.proofs.pass.pass.Tie as tie
 
 abbrev Inv-loop : tie.InvT-loop
-Inv-loop table format list out₀ put base c₀ p₀ out c p = Passing format list (p₀ .state) put out₀ (c .at) p out × (length out ≡ length out₀)
+Inv-loop table format list out₀ put base c₀ p₀ out c p = Passing (tableAt table) format list (p₀ .state) put out₀ (c .at) p out × (length out ≡ length out₀)
 
 abbrev μ-loop : tie.MeasureT-loop
 μ-loop table format list out₀ put base c₀ p₀ out c p = length format - c .at
 
 -- the item that the cursor read
 item : (c : tie.After-op Inv-loop μ-loop) → let l = c .before .before .before .before .before .before in
-    nextAt (l .loop .c .at) (drop (l .loop .c .at) (l .before .before .before .before .before .args .format .now)) ≡ accepted (some (c .op .result, c .before .before .before .item .given .0 .1 .0 .at))
+    nextAt (tableAt (l .before .before .before .before .before .args .table .now)) (l .loop .c .at) (drop (l .loop .c .at) (l .before .before .before .before .before .args .format .now)) ≡ accepted (some (c .op .result, c .before .before .before .item .given .0 .1 .0 .at))
 item c =
     let i = c .before .before .before in
     sym (i .before .before .next .ensures) ∙ ap nextOf (i .item .given .1) ∙ ap (λ (o : Op). accepted (some (o, i .item .given .0 .1 .0 .at))) (sym (c .op .ensures))
@@ -30,7 +31,7 @@ new-requires : tie.Need-new-requires Inv-loop μ-loop
 new-requires c κs = tt
 
 loop-holds : tie.Need-loop-holds Inv-loop μ-loop
-loop-holds c = let s = c .before .before .before .before in (passing-none _ _ _ _ _ _ (c .new .ensures) (s .pre .1 .0) (s .pre .1 .1 .0), refl)
+loop-holds c = let s = c .before .before .before .before in (passing-none _ _ _ _ _ _ _ (c .new .ensures) (s .pre .1 .0) (s .pre .1 .1 .0), refl)
 
 next-requires : tie.Need-next-requires Inv-loop μ-loop
 next-requires c κs = c .before .before .before .before .before .pre .0
@@ -75,7 +76,7 @@ advance-requires c κs =
     let l = o .before .before .before .before .before .before in
     let w = l .loop .inv .0 in
     let fits = passing-fits w (l .before .before .before .before .before .pre .1 .1 .1) (item o) (l .loop .inv .1) in
-    (w .sound, (w .known, (omega (arith, w .few .1, w .inside), (omega (arith, w .few .0, w .inside), (item-valid w (item o), fits)))))
+    (w .sound, (w .known, (omega (arith, w .few .1, w .inside), (omega (arith, w .few .0, w .inside), (item-valid w (item o) (l .before .before .before .before .before .pre .0), fits)))))
 
 enum-known-k-2 : tie.Need-enum-known-k-2 Inv-loop μ-loop
 enum-known-k-2 c = c .match2 .keys1
@@ -100,7 +101,8 @@ loop-again : tie.Need-loop-again Inv-loop μ-loop
 loop-again c =
     let a = c .before .before .before .before in
     let o = a .before .before .before in
-    (passing-on (o .before .before .before .before .before .before .loop .inv .0) (item o) (rw (c .enum-told2 .given .1) at (a .advance .ensures .0)) (a .advance .ensures .1), search needs)
+    let l = o .before .before .before .before .before .before in
+    (passing-on (l .loop .inv .0) (item o) (l .before .before .before .before .before .pre .0) (rw (c .enum-told2 .given .1) at (a .advance .ensures .0)) (a .advance .ensures .1), search needs)
 
 enum-known-q : tie.Need-enum-known-q Inv-loop μ-loop
 enum-known-q c = c .match2 .keys3
@@ -112,7 +114,8 @@ loop-again-2 : tie.Need-loop-again-2 Inv-loop μ-loop
 loop-again-2 c =
     let a = c .before .before .before .before .before in
     let o = a .before .before .before in
-    (passing-on (o .before .before .before .before .before .before .loop .inv .0) (item o) (rw (c .before .q .given .1) at (a .advance .ensures .0)) (a .advance .ensures .1), search needs)
+    let l = o .before .before .before .before .before .before in
+    (passing-on (l .loop .inv .0) (item o) (l .before .before .before .before .before .pre .0) (rw (c .before .q .given .1) at (a .advance .ensures .0)) (a .advance .ensures .1), search needs)
 
 pub pass-spec : {M : Type 1} → statement M
 pass-spec =
