@@ -10,7 +10,8 @@ use lib.IntN.{pos}
 use lib.ListN.{length, drop, length-append}
 use borrow.Author.Tests.{eqb-true, eqb-false}
 use Rattle.definition.specs.Answers.{refused, accepted}
-use Rattle.definition.specs.Items.{items}
+use Rattle.definition.specs.Options.{options}
+use Rattle.definition.specs.Ops.{ops}
 use Rattle.definition.specs.Writing.{Cell, pad, byte, zeroed}
 use Rattle.definition.specs.Reading.{offset, positionOf}
 use Rattle.definition.specs.Calls.{Call, call, stringPacksize, stringPack, stringUnpack}
@@ -61,14 +62,14 @@ module _ (f l b after : List ℕ) (r : Packed) (n : ℕ) (i : r ≡ Packed.Lengt
   length-is : length (packedBytes f l) ≡ n
   length-is = same (ap (λ (c : Call ℕ). c .answer) (sym (agreed .wrote) ∙ wrote))
 
-  measured : stringPacksize f ≡ cond (hasOpen (items f)) (refused 10) (accepted n)
-  measured = agreed .size ∙ ap (λ (m : ℕ). cond (hasOpen (items f)) (refused 10) (accepted m)) length-is
+  measured : stringPacksize f ≡ cond (hasOpen (ops options f)) (refused 10) (accepted n)
+  measured = agreed .size ∙ ap (λ (m : ℕ). cond (hasOpen (ops options f)) (refused 10) (accepted m)) length-is
 
   pub size-is : (m : Measured) (s : ℕ) → m ≡ Measured.Size s → measuredOf m ≡ stringPacksize f → s ≡ n
-  size-is m s j d = size (hasOpen (items f)) s n (ap measuredOf (sym j) ∙ d ∙ measured)
+  size-is m s j d = size (hasOpen (ops options f)) s n (ap measuredOf (sym j) ∙ d ∙ measured)
 
   pub ten-is : (m : Measured) (k : ℕ) → m ≡ Measured.Refused k → measuredOf m ≡ stringPacksize f → k ≡ 10
-  ten-is m k j d = ten (hasOpen (items f)) k n (ap measuredOf (sym j) ∙ d ∙ measured)
+  ten-is m k j d = ten (hasOpen (ops options f)) k n (ap measuredOf (sym j) ∙ d ∙ measured)
 
   after-is : after ≡ packedBytes f l ++ drop (length (packedBytes f l)) b
   after-is = ap (λ (c : Call ℕ). c .buffer) (sym wrote ∙ agreed .wrote)

@@ -10,7 +10,7 @@ use lib.Count.{trailingZeros}
 use Rattle.single.specs.Single.{toSingle, fromSingle}
 use Rattle.definition.specs.Answers.{Checked, refused, accepted}
 use Rattle.definition.specs.Bytes.{bytes, little, total, signed, laid}
-use Rattle.definition.specs.Values.{Value, integer, float, text, other}
+use Rattle.definition.specs.Values.{Value, float, text, other}
 use Rattle.definition.specs.Lists.{listOf, fieldOf, valuesPast, fieldsAfter, offsetAfter}
 use Rattle.definition.specs.Options.{entryList, options}
 use Rattle.definition.specs.Items.{digits, nextByte, taken, itemsPast, value, numeralOf}
@@ -23,7 +23,7 @@ use Rattle.definition.specs.Reading.{offset, positionOf, readField, read
 use Rattle.definition.specs.Bound.{boundOp, bound}
 use Rattle.definition.specs.Program.{firstLine, decimalIn, printed}
 use Rattle.definition.specs.Calls.{Call, call, listBound, pack, packContinued, stringPack, unpack, stringUnpack}
-use Rattle.definition.specs.Profiles.{packs, continues, sizes, bounds, reads, keeps, prints, data-number, data-values, data-continued, room, Row, pack-gives, pack-refused, size-gives, size-refused, read-gives, read-refused, Hold, int, neg, str}
+use Rattle.definition.specs.Profiles.{packs, continues, sizes, bounds, keeps, prints, data-number, data-values, data-continued, room, Row, pack-gives, pack-refused, size-gives, size-refused, read-gives, read-refused, Hold, int, neg, str}
 use Rattle.definition.specs.Entries.{written}
 use Rattle.definition.specs.declared.Field.the-variants.{Number, ZeroEnded, Counted}
 use Rattle.definition.specs.declared.Kind.the-variants.{Unsigned, LuaInteger, LuaUnsigned, Size}

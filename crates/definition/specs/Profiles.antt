@@ -2,7 +2,6 @@
 use Prim.Native.Nat.{ℕ, _-_, _^_}
 use Prim.Native.String.{String}
 use mathlib.Core.Path.{_≡_, refl}
-use mathlib.Core.Bool.{false}
 use mathlib.Core.List.{List, [], _∷_, _++_, map}
 use lib.IntN.{ℤ, pos, negsuc}
 use lib.ListN.{take, replicate}
@@ -11,18 +10,17 @@ use lib.Count.{trailingZeros}
 use Rattle.single.specs.Single.{toSingle, fromSingle}
 use Rattle.definition.specs.Answers.{Checked, refused, accepted, _>>=_}
 use Rattle.definition.specs.Bytes.{bytes, little, total, signed, laid}
-use Rattle.definition.specs.Values.{Value, integer, float, text, other}
+use Rattle.definition.specs.Values.{Value, integer, float, text}
 use Rattle.definition.specs.Lists.{listOf, fieldOf, valuesPast, values}
 use Rattle.definition.specs.Options.{entryList, options}
 use Rattle.definition.specs.Items.{digits, nextByte, taken, itemsPast, value, numeralOf}
 use Rattle.definition.specs.Ops.{opOf}
-use Rattle.definition.specs.States.{state, start, longer, alignment, padding}
-use Rattle.definition.specs.Fields.{word, encode, number, decode, kept}
+use Rattle.definition.specs.States.{longer, alignment, padding}
+use Rattle.definition.specs.Fields.{word, encode, number, decode}
 use Rattle.definition.specs.Measuring.{measureOp, measure}
 use Rattle.definition.specs.Writing.{writeField, writeOp}
 use Rattle.definition.specs.Reading.{readField, readOp, read}
-use Rattle.definition.specs.Bound.{boundOp, bound}
-use Rattle.definition.specs.Program.{firstLine, decimalIn, printed}
+use Rattle.definition.specs.Program.{printed}
 use Rattle.definition.specs.Calls.{Call, stringPacksize, listBound, pack, packContinued, stringPack, unpack, stringUnpack}
 use Rattle.definition.specs.Claims.{keptList}
 use Rattle.definition.specs.declared.State.{State}

@@ -9,7 +9,6 @@ use values::fields_after;
 use write::Packed;
 use write::Total;
 use write::pack_continued;
-use write::pass::Total;
 use write::string_pack;
 ghost use mathlib.Core.Path.{_≡_};
 ghost use Rattle.definition.specs.Answers.{accepted};

@@ -9,12 +9,10 @@ use lib.Dec.{T, ltb, eqb}
 use lib.Ieee.Bits.{is-true}
 use lib.ListN.{length, getD, drop}
 use borrow.Author.Tests.{lt-ltb, le-ltb, ltb-true, ltb-false, ne-eqb}
-use Rattle.definition.specs.Answers.{Checked, refused, accepted, _>>_, require}
-use Rattle.definition.specs.Options.{entry, Table, Class, Number, Blank, Order, ZeroEnded, Fill, Nothing, Digits, Entry}
+use Rattle.definition.specs.Answers.{Checked, refused, accepted}
+use Rattle.definition.specs.Options.{entry, Table, Class, Blank, Order, ZeroEnded, Fill, Nothing, Entry}
 use Rattle.definition.specs.Items.{digits, isNumber, behindX, nextByte, numeralOf, Numeral}
 use Rattle.definition.specs.Ops.{within16, sizeOr, naturalBy}
-use Rattle.definition.specs.declared.Kind.{Kind}
-use Rattle.definition.specs.declared.Kind.the-variants.{Signed, Unsigned}
 use Rattle.definition.specs.Items as Numeral
 use Rattle.format.specs.Packed.{sizeAt, plainAt, entryAt}
 use Rattle.format.specs.Operands.{sizeBy, taking, operandAt, naturalAt, oneMore}

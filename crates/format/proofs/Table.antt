@@ -1,13 +1,13 @@
 -- The packed table is the option table: at all 256 bytes by one equation that antt computes, and above them there is no option.
-use Prim.Native.Nat.{ℕ, _≤_, _<_}
-use mathlib.Core.Path.{_≡_, refl, sym, ap, _∙_}
+use Prim.Native.Nat.{ℕ, _≤_}
+use mathlib.Core.Path.{_≡_, refl, sym}
 use mathlib.Core.Bool.{Bool, true, false, cond}
 use mathlib.Core.List.{List, [], _∷_}
 use native.Mathlib.Omega.{arith}
-use lib.Dec.{T, ltb, eqb, ltb→lt}
+use lib.Dec.{T, ltb, eqb}
 use lib.ListN.{getD}
 use borrow.Author.Tests.{ltb-true, ltb-false, ne-eqb}
-use Rattle.definition.specs.Options.{Entry, entryList, find, options, Table}
+use Rattle.definition.specs.Options.{Entry, entryList, find, options}
 use Rattle.format.specs.Packed.{packed, kindAt, plainAt, entryAt, tableAt}
 use Rattle.format.proofs.Tabulate.{rule}
 

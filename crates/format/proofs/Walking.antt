@@ -9,7 +9,7 @@ use lib.ListN.{length, drop, length-drop}
 use lib.Seq.{drop-drop}
 use Rattle.definition.specs.Answers.{Checked, refused, accepted, _>>=_, after, run}
 use Rattle.definition.specs.Options.{Table}
-use Rattle.definition.specs.Items.{Item, item, items, taken}
+use Rattle.definition.specs.Items.{Item, item, taken}
 use Rattle.definition.specs.Ops.{opOf, ops}
 use Rattle.definition.specs.declared.Op.{Op}
 use Rattle.definition.proofs.Items.{items-nil, items-cons}

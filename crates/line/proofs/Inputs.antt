@@ -11,7 +11,7 @@ use lib.Seq.{take-suc, drop-cons}
 use borrow.Author.Tests.{le-leb, lt-leb, lt-ltb, le-ltb, ltb-true, ne-eqb}
 use Rattle.definition.specs.Answers.{refused, accepted}
 use Rattle.definition.specs.Bytes.{bytes}
-use Rattle.definition.specs.Measuring.{measure}
+use Rattle.definition.specs.Calls.{stringPacksize}
 use Rattle.definition.specs.Program.{firstLine, line, printed}
 use Rattle.line.specs.Lines.{settled, Stands, answerTo, numberLine}
 
@@ -49,7 +49,7 @@ length-line s n e h = ap length (sym e) ∙ length-take n s ∙ omega arith
 pub answer-long : (s : List ℕ) (n : ℕ) → take n s ≡ firstLine s → n ≤ length s → 4096 < n → refused 22 ≡ answerTo s
 answer-long s n e h l = rw (length-line s n e h, lt-leb n 4096 l)
 
-pub answer-short : (s : List ℕ) (n : ℕ) → take n s ≡ firstLine s → n ≤ length s → n ≤ 4096 → measure (take n s) ≡ answerTo s
+pub answer-short : (s : List ℕ) (n : ℕ) → take n s ≡ firstLine s → n ≤ length s → n ≤ 4096 → stringPacksize (take n s) ≡ answerTo s
 answer-short s n e h l = rw (length-line s n e h, le-leb n 4096 l, e)
 
 -- ---- "up to a line feed or the end (over 4,096 bytes: 22)": when what follows an input cannot change its answer

@@ -7,7 +7,7 @@ use lib.Dec.{leb, ltb}
 use lib.ListN.{length}
 use Rattle.definition.specs.Answers.{Checked, _>>_, require}
 use Rattle.definition.specs.Bytes.{bytes}
-use Rattle.definition.specs.Measuring.{measure}
+use Rattle.definition.specs.Calls.{stringPacksize}
 use Rattle.definition.specs.Program.{firstLine, decimal, printed}
 
 -- whether the first line is complete, or longer than a format may be
@@ -20,7 +20,7 @@ Stands s = (more : List ℕ) → printed (s ++ more) ≡ printed s
 
 -- the answer to an input
 abbrev pub answerTo : List ℕ → Checked ℕ
-answerTo s = require (leb (length (firstLine s)) 4096) 22 >> measure (firstLine s)
+answerTo s = require (leb (length (firstLine s)) 4096) 22 >> stringPacksize (firstLine s)
 
 -- a label, a number and the line's end
 abbrev pub numberLine : List ℕ → ℕ → List ℕ

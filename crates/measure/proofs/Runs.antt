@@ -4,7 +4,7 @@ use mathlib.Core.Path.{_≡_, refl}
 use mathlib.Core.List.{List}
 use mathlib.Core.Option.{none, some}
 use lib.ListN.{drop}
-use Rattle.definition.specs.Answers.{Checked, refused, accepted, _>>=_, run, silent}
+use Rattle.definition.specs.Answers.{Checked, refused, accepted, run, silent}
 use Rattle.definition.specs.Options.{Table}
 use Rattle.definition.specs.Ops.{ops}
 use Rattle.definition.specs.declared.State.{State}

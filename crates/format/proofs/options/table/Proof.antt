@@ -1,6 +1,5 @@
 -- The constant has the numbers of the packed table, which is the option table.
-use mathlib.Core.Path.{_≡_, refl, ap, _∙_}
-use Rattle.format.specs.Packed.{packed, tableAt}
+use Rattle.format.specs.Packed.{packed}
 use Rattle.format.proofs.Table.{packed-options}
 use Rattle.format.proofs.options.table.Statement.{statement}
 use Rattle.format.proofs.options.table.Tie as tie
