@@ -19,14 +19,16 @@ use Rattle.definition.specs.States.{state, start, longer, alignment, pad
 use Rattle.definition.specs.Fields.{word, encode, short, number, decode, kept}
 use Rattle.definition.specs.Measuring.{measureOp, measure}
 use Rattle.definition.specs.Writing.{writeField, writeOp}
-use Rattle.definition.specs.Reading.{offset, positionOf, readField, readOp, read}
+use Rattle.definition.specs.Reading.{Read, offset, positionOf, readField, readOp, read}
 use Rattle.definition.specs.Bound.{boundOp, bound}
 use Rattle.definition.specs.Program.{firstLine, decimalIn, printed}
 use Rattle.definition.specs.Calls.{Call, call, listBound, pack, packContinued, stringPack, unpack, stringUnpack}
 use Rattle.definition.specs.Profiles.{packs, continues, sizes, bounds, keeps, prints, data-number, data-values, data-continued, room, Row, pack-gives, pack-refused, size-gives, size-refused, read-gives, read-refused, Hold, int, neg, str}
 use Rattle.definition.specs.Entries.{written}
-use Rattle.definition.specs.declared.Field.the-variants.{Number, ZeroEnded, Counted}
-use Rattle.definition.specs.declared.Kind.the-variants.{Unsigned, LuaInteger, LuaUnsigned, Size}
+use Rattle.definition.specs.declared.Field.{Field}
+use Rattle.definition.specs.declared.Field.the-variants.{Number, Chars, ZeroEnded, Counted}
+use Rattle.definition.specs.declared.Kind.the-variants.{SmallSigned, Signed, Unsigned, LuaInteger, LuaUnsigned, Size}
+use Rattle.definition.specs.declared.Position.{Position}
 use Rattle.definition.specs.declared.Unpacked.{Unpacked}
 
 -- ---- formats
@@ -495,6 +497,22 @@ numbers-read =
 abbrev read-signed : List (Checked (Value × ℕ) × Checked (Value × ℕ))
 read-signed = (decode false (Number Unsigned 8) (replicate 8 0xff), accepted (neg 0, 8)) ∷ []
 
+-- what reading puts out: the field, the offset after its padding, the bytes with z's zero and s's length among them, the value
+abbrev traced : Field → ℕ → List ℕ → Value → Read
+traced f o s v = record { field = f; start = offset o; bytes = s; value = v }
+
+abbrev traces : List (Checked (List Read × Position) × Checked (List Read × Position))
+traces =
+    (read options (bytes ">!4bis2zxc1c0") (9 ∷ 1 ∷ 9 ∷ 9 ∷ 0 ∷ 0 ∷ 0 ∷ 2 ∷ 0 ∷ 1 ∷ 0x41 ∷ 0x42 ∷ 0 ∷ 9 ∷ 0x43 ∷ 9 ∷ []) (pos 2), accepted
+        (traced (Number SmallSigned 1) 1 (1 ∷ []) (int 1)
+        ∷ traced (Number Signed 4) 4 (0 ∷ 0 ∷ 0 ∷ 2 ∷ []) (int 2)
+        ∷ traced (Counted 2) 8 (0 ∷ 1 ∷ 0x41 ∷ []) (str "A")
+        ∷ traced ZeroEnded 11 (0x42 ∷ 0 ∷ []) (str "B")
+        ∷ traced (Chars 1) 14 (0x43 ∷ []) (str "C")
+        ∷ traced (Chars 0) 15 [] (str "")
+        ∷ [], positionOf (offset 15)))
+    ∷ []
+
 -- "z gives 19 and never 17; s reads its length (17, 18), then its text (17, 20)"
 abbrev texts-read : List Row
 texts-read =
@@ -594,6 +612,7 @@ pub record Examples : Type 0 where
   pub of-data-ends : Hold data-ends
   pub of-numbers-read : Hold numbers-read
   pub of-read-signed : Same read-signed
+  pub of-traces : Same traces
   pub of-texts-read : Hold texts-read
   pub of-kept-values : Hold kept-values
   pub of-kept-signed : Same kept-signed
@@ -625,6 +644,7 @@ examples =
       of-data-ends = refl;
       of-numbers-read = refl;
       of-read-signed = refl;
+      of-traces = refl;
       of-texts-read = refl;
       of-kept-values = refl;
       of-kept-signed = refl;
