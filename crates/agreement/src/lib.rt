@@ -8,12 +8,12 @@ use write::Packed;
 use write::string_pack;
 ghost use mathlib.Core.Path.{_≡_};
 ghost use mathlib.Core.Bool.{true};
-ghost use Rattle.definition.specs.Claims.{Demand, Returned, Rooms, Numbered, Bounded, Decimals, Readable};
+ghost use Rattle.definition.specs.Claims.{Demand, Continuing, Returned, Rooms, Numbered, Bounded, Decimals, Readable};
 ghost use Rattle.definition.specs.Premises.{Needed, Divided};
 
 // The claims, about the definitions that the contracts of the calls name.
 pub fn claims()
-    ensures { λ _. ⌜ Demand × Returned × Rooms × Numbered × Bounded × Decimals ⌝ }
+    ensures { λ _. ⌜ Demand × Continuing × Returned × Rooms × Numbered × Bounded × Decimals ⌝ }
 {}
 
 // An example for each of their premises, and one of a format that is divided into parts.

@@ -18,6 +18,7 @@ pub mod Calls
 pub mod Cutting
 pub mod Bound
 pub mod Demand
+pub mod Continuing
 pub mod Premises
 pub mod Program
 pub mod Numbered

@@ -17,6 +17,7 @@ use Rattle.definition.specs.Ops.{ops}
 use Rattle.definition.specs.Values.{Value, asInteger}
 use Rattle.definition.specs.Lists.{listOf, fieldsAfter}
 use Rattle.definition.specs.States.{start}
+use Rattle.definition.specs.Measuring.{measureFrom}
 use Rattle.definition.specs.Fields.{kept}
 use Rattle.definition.specs.Writing.{Cell, pad, byte, Place, Output, nothing}
 use Rattle.definition.specs.Reading.{offset, positionOf}
@@ -50,8 +51,11 @@ abbrev pub outputOf : Checked (Place Value × Output) → Output
 outputOf (refused k) = nothing
 outputOf (accepted r) = r .1
 
+abbrev pub writtenFrom : State → List ℕ → List ℕ → Output
+writtenFrom s f l = outputOf (pack s f l)
+
 abbrev pub written : List ℕ → List ℕ → Output
-written f l = outputOf (pack start f l)
+written f l = writtenFrom start f l
 
 -- B
 abbrev pub packedBytes : List ℕ → List ℕ → List ℕ
@@ -61,8 +65,11 @@ packedBytes f l = recordOf (written f l)
 abbrev pub keep : Field × Value → Value
 keep t = kept (t .0) (t .1)
 
+abbrev pub keptFrom : State → List ℕ → List ℕ → List ℕ
+keptFrom s f l = listOf (map keep (writtenFrom s f l .took))
+
 abbrev pub keptList : List ℕ → List ℕ → List ℕ
-keptList f l = listOf (map keep (written f l .took))
+keptList f l = keptFrom start f l
 
 -- "holding B .., whichever bytes replace B's padding": the bytes are the cells', each padding any byte
 abbrev pub Holds : List Cell → List ℕ → Type 0
@@ -192,6 +199,16 @@ pub record Demand : Type 0 where
       → totalOf (packContinued s f l b) ≡ inTurn s l (p ∷ ps)
   -- "Plain writing of F with the whole list gives that one call's bytes, or its refusal."
   pub plain : (f l b : List ℕ) → stringPack f l b ≡ call (packContinued start f l b .answer >>= λ a. accepted (a .written)) (packContinued start f l b .buffer)
+
+-- ---- size and writing again from every state, of which `start` is one: where continued writing of f with l from s is accepted with the answer a
+pub record Continuing : Type 0 where
+  -- measuring from s comes to the state that writing comes to, or gives 10 if F has z or s
+  pub size : (s : State) (f l b : List ℕ) (a : Continued) → packContinued s f l b .answer ≡ accepted a
+      → measureFrom options s f ≡ cond (hasOpen (ops options f)) (refused 10) (accepted (a .next))
+  -- writing the kept values again from s gives the same answer and bytes
+  pub again : (s : State) (f l b : List ℕ) (a : Continued) → packContinued s f l b .answer ≡ accepted a
+      → All IsByte l → ShortChars f → All (λ t. T (integerForJ (t .0) (t .1))) (writtenFrom s f l .took)
+      → (c : List ℕ) → LongEnough (packContinued s f (keptFrom s f l) c .answer) → packContinued s f (keptFrom s f l) c ≡ gives a (recordOf (writtenFrom s f l)) c
 
 -- ---- what else is claimed
 
