@@ -28,7 +28,8 @@ use Rattle.format.specs.Steps.{nextAt}
 use Rattle.format.proofs.Walking.{Walked, valid, ahead, walk-none, walk-end, walk-refusal, walk-refused, walk-on}
 use Rattle.write.specs.Walks.{valuesOf, summed, FitsAt, putAt, totalsOf, written, Moved}
 use Rattle.write.specs.declared.pass.Progress.{Progress}
-use Rattle.write.proofs.Pasting.{paste-front, paste-whole}
+use Rattle.coder.proofs.Pasting.{paste-front}
+use Rattle.write.proofs.Pasting.{paste-whole}
 
 abbrev progress : State → ℕ → ℕ → ℕ → Progress
 progress s at u i = record { state = s; at = at; used = u; items = i }
