@@ -25,7 +25,7 @@ use Rattle.measure.specs.declared.size.Measured.the-variants as Measured
 use Rattle.read.specs.Answers.{callOf}
 use Rattle.read.specs.declared.Unpacking.{Unpacking}
 use Rattle.read.specs.declared.Unpacking.the-variants as Unpacking
-use Rattle.write.specs.Answers.{packedIs}
+use Rattle.write.specs.Answers.{packedCallOf}
 use Rattle.write.specs.declared.Packed.{Packed}
 use Rattle.write.specs.declared.Packed.the-variants as Packed
 
@@ -52,9 +52,9 @@ only-22 c a s d k h e = go (eqb k 22) refl
     go true i = eqb-true k 22 i
     go false i = absurd (never (sym e ∙ ap (λ (x : Call _). x .answer) (h (λ j. eqb-false k 22 i (same-number (sym e ∙ j))))))
 
-module _ (f l b after : List ℕ) (r : Packed) (n : ℕ) (i : r ≡ Packed.Length n) (e : packedIs r after ≡ stringPack f l b) where
+module _ (f l b after : List ℕ) (r : Packed) (n : ℕ) (i : r ≡ Packed.Length n) (e : packedCallOf r after ≡ stringPack f l b) where
   wrote : stringPack f l b ≡ call (accepted n) after
-  wrote = sym e ∙ ap (λ (p : Packed). packedIs p after) i
+  wrote = sym e ∙ ap (λ (p : Packed). packedCallOf p after) i
 
   agreed : Agreement f l b
   agreed = demand .agreement f l b n (ap (λ (c : Call ℕ). c .answer) wrote)

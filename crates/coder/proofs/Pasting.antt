@@ -6,7 +6,7 @@ use native.Mathlib.Nat.{add-assoc}
 use native.Mathlib.Numerals.{add-one}
 use native.Mathlib.Omega.{arith}
 use lib.ListN.{length, take, drop, getD, set, length-append}
-use lib.Seq.{paste, paste-zero, paste-suc, length-paste, take-paste, drop-paste, drop-at, drop-drop, take-all, take-append-le, take-take, length-take-le, set-split, append-snoc}
+use lib.Seq.{paste, paste-zero, paste-suc, length-paste, take-paste, drop-paste, take-at, drop-at, drop-drop, take-all, take-append-le, take-take, length-take-le, set-split, append-snoc}
 
 -- one element
 pub set-paste : (d : List ℕ) (at x : ℕ) → at < length d → set d at x ≡ paste d at (x ∷ []) 1
@@ -34,6 +34,12 @@ module _ (d x y : List ℕ) (at m n : ℕ) (e : length x ≡ m) (f : length y �
       let long = length-take-le (at + m) d (omega arith) in
       let first : take at (take (at + m) d ++ back) ≡ take at d = take-append-le at (take (at + m) d) back (omega arith) ∙ take-take at (at + m) d (omega arith) in
       rw (split, first, drop-at (take (at + m) d) back (at + m) long, both, rest, take-all m x (omega arith), take-all n y (omega arith)) (simp append-assoc)
+
+-- a list that begins with x, and y put after it
+pub paste-front : (d x : List ℕ) (n : ℕ) → length x ≡ n → (y : List ℕ) (m : ℕ) → length y ≡ m → paste (x ++ drop n d) n y m ≡ (x ++ y) ++ drop (n + m) d
+paste-front d x n e y m f =
+    let rest : drop (n + m) (x ++ drop n d) ≡ drop (n + m) d = sym (drop-drop m n (x ++ drop n d)) ∙ ap (drop m) (drop-at x (drop n d) n e) ∙ drop-drop m n d in
+    rw (take-at x (drop n d) n e, take-all m y (omega arith), rest)
 
 -- ---- a loop that writes the n elements of s into d from index `at` on, one a turn
 

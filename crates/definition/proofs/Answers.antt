@@ -1,6 +1,6 @@
 -- Laws of answers and of runs: what an accepted answer went through, and one induction over accepted runs.
-use mathlib.Core.Path.{_≡_, refl, ap, subst}
-use mathlib.Core.Bool.{Bool, true, false}
+use mathlib.Core.Path.{_≡_, refl, sym, ap, subst}
+use mathlib.Core.Bool.{Bool, true, false, _&&_}
 use mathlib.Core.List.{List, [], _∷_}
 use mathlib.Core.Option.{Option, none, some}
 use Prim.Native.Nat.{ℕ}
@@ -18,6 +18,11 @@ same-number e = cc
 
 pub true-not-false : true ≡ false → ⊥
 true-not-false e = let z : _≡_ {A = ℕ} 0 1 = cc in omega arith
+
+-- the two tests of one that holds
+pub both-parts : (a b : Bool) → (a && b) ≡ true → (a ≡ true) × (b ≡ true)
+both-parts true b e = (refl, e)
+both-parts false b e = absurd (true-not-false (sym e))
 
 pub record Bound {A B : Type 0} (c : Checked A) (f : A → Checked B) (b : B) : Type 0 where
   pub val : A

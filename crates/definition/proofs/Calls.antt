@@ -24,7 +24,7 @@ use Rattle.definition.specs.declared.Setting.{Setting}
 use Rattle.definition.specs.declared.Setting.the-variants as Setting
 use Rattle.definition.specs.declared.Op.{Op}
 use Rattle.definition.specs.declared.Continued.{Continued}
-use Rattle.definition.proofs.Answers.{never, same, same-number, bound, passed, by-steps, true-not-false}
+use Rattle.definition.proofs.Answers.{never, same, same-number, bound, passed, by-steps, both-parts}
 use Rattle.definition.proofs.Lists.{values-after}
 use Rattle.definition.proofs.Ops.{validOp, validSetting, Valid, options-sizes, ops-valid}
 use Rattle.definition.proofs.Steps.{Step, blank, sets, pads-out, puts, step-of}
@@ -100,10 +100,6 @@ Sound s = (isPower (s .limit) && atMost63 (s .length)) ≡ true
 
 pub start-sound : Sound start
 start-sound = refl
-
-both-parts : (a b : Bool) → (a && b) ≡ true → (a ≡ true) × (b ≡ true)
-both-parts true b e = (refl, e)
-both-parts false b e = absurd (true-not-false (sym e))
 
 both-true : (a b : Bool) → a ≡ true → b ≡ true → (a && b) ≡ true
 both-true a b e f = rw (e, f)

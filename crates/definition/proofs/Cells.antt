@@ -55,7 +55,3 @@ module _ {A : Type 0} (P : A → Type 0) where
   pub all-append : (x y : List A) → All P x → All P y → All P (x ++ y)
   all-append [] y a b = b
   all-append (c ∷ x) y a b = (a .0, all-append x y (a .1) b)
-
-pub map-append : {A B : Type 0} (g : A → B) (x y : List A) → map g (x ++ y) ≡ map g x ++ map g y
-map-append g [] y = refl
-map-append g (a ∷ x) y = rw (map-append g x y)

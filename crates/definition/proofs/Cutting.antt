@@ -3,7 +3,7 @@ use Prim.Native.Nat.{ℕ, _+_}
 use native.Mathlib.Nat.{zero-add, add-zero, add-assoc}
 use mathlib.Core.Path.{_≡_, refl, sym, ap, _∙_}
 use mathlib.Core.Bool.{Bool, true, false, _&&_, cond}
-use mathlib.Core.List.{List, [], _∷_, map, append-assoc, append-nil}
+use mathlib.Core.List.{List, [], _∷_, map, map-append, append-assoc, append-nil}
 use lib.Dec.{leb}
 use lib.ListN.{length, take, length-append}
 use Rattle.definition.specs.Answers.{Checked, refused, accepted, _>>=_, after}
@@ -18,7 +18,6 @@ use Rattle.definition.specs.Calls.{Call, call, into, atMost63, pack, rec
 use Rattle.definition.specs.Claims.{LongEnough, gives, Divides, Total, totalOf, joinedTo, inTurn}
 use Rattle.definition.specs.declared.State.{State}
 use Rattle.definition.proofs.Answers.{never}
-use Rattle.definition.proofs.Cells.{map-append}
 use Rattle.definition.proofs.Parts.{runs, cut-anywhere}
 use Rattle.definition.proofs.Calls.{Sound, pack-run, Packed, next-sound, next-values, totalOfRun, total-long}
 

@@ -94,7 +94,12 @@ value-held t c v h l e = go (eqb t 0) (eqb t 1) (eqb t 2) (eqb t 3) e
     eight : eqb (length c) 8 ≡ true → bigTotal c < 256 ^ 8
     eight q = big-lt c 8 h (eqb-true (length c) 8 q)
 
-    go : (t0 t1 t2 t3 : Bool) → cond t0 (require (eqb (length c) 0) 21 >> accepted other) (cond t1 (require (eqb (length c) 8) 21 >> accepted (integer (signed 8 (bigTotal c)))) (cond t2 (require (eqb (length c) 8) 21 >> accepted (float (bigTotal c))) (cond t3 (accepted (text c)) (refused 21)))) ≡ accepted v → Held v
+    go : (t0 t1 t2 t3 : Bool)
+        → cond t0 (require (eqb (length c) 0) 21 >> accepted other)
+        (cond t1 (require (eqb (length c) 8) 21 >> accepted (integer (signed 8 (bigTotal c))))
+        (cond t2 (require (eqb (length c) 8) 21 >> accepted (float (bigTotal c)))
+        (cond t3 (accepted (text c)) (refused 21)))) ≡ accepted v
+        → Held v
     go true t1 t2 t3 e = subst Held (same (passed (eqb (length c) 0) 21 (accepted other) e .1)) tt
     go false true t2 t3 e = let p = passed (eqb (length c) 8) 21 (accepted (integer (signed 8 (bigTotal c)))) e in subst Held (same (p .1)) (extent-signed 8 (bigTotal c) (lit≤ tt) (eight (p .0)))
     go false false true t3 e = let p = passed (eqb (length c) 8) 21 (accepted (float (bigTotal c))) e in subst Held (same (p .1)) (eight (p .0))

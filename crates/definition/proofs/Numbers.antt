@@ -1,7 +1,7 @@
 -- A number is read back, and written again: every kind, and every size together.
 use Prim.Native.Nat.{ℕ, _*_, _-_, _%_, _^_, _≤_, _<_}
 use mathlib.Core.Path.{_≡_, refl, sym, ap, _∙_, subst}
-use mathlib.Core.Bool.{Bool, true, false, _&&_}
+use mathlib.Core.Bool.{Bool, true}
 use mathlib.Core.List.{List}
 use mathlib.Core.Option.{Option, none, some}
 use native.Mathlib.Nat.{mod-eq-of-lt, mod-lt, mod-mod, lt-of-lt-of-le}
@@ -9,7 +9,8 @@ use native.Mathlib.Omega.{arith}
 use lib.Dec.{T, leb, ltb, eqb, leb→le, ltb→lt, eqb→eq, lit≤}
 use lib.IntN.{ℤ, pos, negsuc}
 use lib.ListN.{replicate}
-use borrow.Author.Tests.{leb-true, ltb-true}
+use borrow.Author.Tests.{ltb-true}
+use mir.Facts.{and-yes}
 use Rattle.single.specs.Single.{toSingle}
 use Rattle.single.proofs.Rounding.{single-lt}
 use Rattle.single.proofs.Widening.{double-lt}
@@ -122,11 +123,7 @@ double o b h = record { gives = rw (mod-eq-of-lt h); y = pos b; again = refl; by
 -- ---- the integers that the kinds write
 
 pub within-from-1 : (n : ℕ) → T (within16 n) → 1 ≤ n
-within-from-1 n h = go (leb 1 n) refl h
-  where
-    go : (t : Bool) → leb 1 n ≡ t → T (t && leb n 16) → 1 ≤ n
-    go true e h = leb-true 1 n e
-    go false e h = absurd h
+within-from-1 n h = leb→le 1 n (and-yes (leb 1 n) (leb n 16) h .0)
 
 -- an integer, or a float's bits, are 64 bits
 bits-held : (m : Option ℤ) (v : Value) (z : ℤ) → ((y : ℤ) → m ≡ some y → extent y < 2 ^ 63) → Held v → orElse m (floatBy (λ b. b) v) ≡ accepted z → bits z < 2 ^ 64

@@ -4,6 +4,7 @@ use mathlib.Core.Path.{_≡_, refl, sym, subst}
 use mathlib.Core.Bool.{Bool, true, false, _&&_, _||_, cond}
 use mathlib.Core.List.{List, [], _∷_, map}
 use lib.Dec.{T, leb, eqb, eqb→eq}
+use mir.Facts.{and-yes}
 use Rattle.definition.specs.Answers.{Checked, accepted, _>>_, require}
 use Rattle.definition.specs.Options.{entryList, find, Table, options, Class, NumeralRule, Nothing, Digits, DigitsBehindX, NextByte, Entry}
 use Rattle.definition.specs.Items.{Item, items, numeralOf, Numeral, Missing}
@@ -34,10 +35,6 @@ power-cases P p1 p2 p4 p8 p16 a = or 1 _ p1 (or 2 _ p2 (or 4 _ p4 (or 8 _ p8 (is
         go : (x : Bool) → eqb a k ≡ x → (x || t) ≡ true → P a
         go true e h = is k p e
         go false e h = f h
-
-pub and-parts : (a b : Bool) → T (a && b) → T a × T b
-and-parts true b h = (tt, h)
-and-parts false b h = absurd h
 
 abbrev pub validSetting : Setting → Bool
 validSetting (Setting.Order o) = true
@@ -160,13 +157,13 @@ missing-size d n e = same (passed (within16 d) 3 (accepted d) e .1)
 
 own-size : (c : Class) (r : NumeralRule) (d : ℕ) → ((k : Kind) → T (sizesOk r k d) → T (validSize k d)) → T (entryOk c r d) → SizeOk c d Missing
 own-size c r d f h k e n s =
-    let g : T (sizesOk r k d) = and-parts (within16 d) (sizesOk r k d) (subst (λ (x : Class). T (entryOk x r d)) e h) .1 in
+    let g : T (sizesOk r k d) = and-yes (within16 d) (sizesOk r k d) (subst (λ (x : Class). T (entryOk x r d)) e h) .1 in
     subst (λ (x : ℕ). T (validSize k x)) (missing-size d n s) (f k g)
 
 by-rule : (t : Table) (r : NumeralRule) (e : Entry) (s : List ℕ) (o : Op) → T (entryOk (e .class) r (e .size)) → opWith t r e s ≡ accepted o → T (validOp o)
 by-rule t Nothing e s o h i = by-class (e .class) (e .size) Missing o (own-size (e .class) Nothing (e .size) (λ k g. g) h) i
 by-rule t Digits e s o h i =
-    by-class (e .class) (e .size) (numeralOf s) o (λ k c n m. any-size k n (and-parts (within16 (e .size)) (anySize k) (subst (λ (x : Class). T (entryOk x Digits (e .size))) c h) .1) (size-within (e .size) (numeralOf s) n m)) i
+    by-class (e .class) (e .size) (numeralOf s) o (λ k c n m. any-size k n (and-yes (within16 (e .size)) (anySize k) (subst (λ (x : Class). T (entryOk x Digits (e .size))) c h) .1) (size-within (e .size) (numeralOf s) n m)) i
 by-rule t DigitsBehindX e s o h i = by-class (e .class) (e .size) Missing o (own-size (e .class) DigitsBehindX (e .size) (λ k g. g) h) i
 by-rule t NextByte e s o h i = subst Good (same (bound (naturalOf t s) (λ n. accepted (Op.Pad n 0)) i .rest)) tt
 

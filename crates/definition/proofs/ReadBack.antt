@@ -4,7 +4,7 @@ use native.Mathlib.Nat.{add-zero}
 use native.Mathlib.Omega.{arith}
 use mathlib.Core.Path.{_≡_, refl}
 use mathlib.Core.Bool.{true}
-use mathlib.Core.List.{List, [], _∷_, _++_, map, append-assoc}
+use mathlib.Core.List.{List, [], _∷_, _++_, map, map-append, append-assoc}
 use lib.Dec.{T}
 use lib.ListN.{length, length-append}
 use Rattle.definition.specs.Answers.{Checked, accepted}
@@ -14,7 +14,7 @@ use Rattle.definition.specs.Claims.{Holds, All, keep, isShort, ofField, 
 use Rattle.definition.specs.declared.Field.{Field}
 use Rattle.definition.specs.declared.Op.{Op}
 use Rattle.definition.proofs.Answers.{on, by-steps}
-use Rattle.definition.proofs.Cells.{split, holds-length, holds-none, all-left, all-right, all-append, map-append}
+use Rattle.definition.proofs.Cells.{split, holds-length, holds-none, all-left, all-right, all-append}
 use Rattle.definition.proofs.Ops.{Valid}
 use Rattle.definition.proofs.Traces.{readValue, readingValues}
 use Rattle.definition.proofs.Steps.{Step, step-of, placed, Near, Premises, reads-step, again-step, kept-step, held-step, length-step}

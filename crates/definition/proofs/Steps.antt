@@ -115,7 +115,8 @@ ReadsBack r o t a = (m : ℕ) (d rest : List ℕ) → Near m (r .state .length) 
 abbrev WritesAgain : Place Value → Op → Place Value → Output → Type 0
 WritesAgain r o t a = (ws : List Value) → writeOp (place (r .state) (map keep (a .took) ++ ws)) o ≡ accepted (place (t .state) ws, output (a .cells) (map (λ q. (q .0, keep q)) (a .took)) (a .items))
 
-pads-back : (s : State) (n k p m : ℕ) (d rest : List ℕ) → padding s n ≡ accepted p → Near m (s .length) → Holds (pads (p + k)) d → mapOut valuesOf (_>>=_ {B = Place ℕ × List Read} (readPad (place (placed m s) (d ++ rest)) n k) (λ t. accepted (t, []))) ≡ accepted (place (placed (m + length d) s) rest, [])
+pads-back : (s : State) (n k p m : ℕ) (d rest : List ℕ) → padding s n ≡ accepted p → Near m (s .length) → Holds (pads (p + k)) d
+    → mapOut valuesOf (_>>=_ {B = Place ℕ × List Read} (readPad (place (placed m s) (d ++ rest)) n k) (λ t. accepted (t, []))) ≡ accepted (place (placed (m + length d) s) rest, [])
 pads-back s n k p m d rest e h c = rw (pad-back s m n k p d rest h e (holds-length (pads (p + k)) d c ∙ length-replicate (p + k) pad))
 
 field-reads : (r : Place Value) (f : Field) (p : ℕ) (v : Value) (bs : List ℕ) → padding (r .state) (natural f) ≡ accepted p → Returns (r .state .big) f v bs

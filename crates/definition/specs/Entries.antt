@@ -361,7 +361,9 @@ pub record Entries : Type 0 where
   pub behind-an-X-above-127 : Says 128 128 (λ b. stringPacksize (bytes "!16xX" ++ (b ∷ []))) [] (refused 1)
 
 pub entries : Entries
-unfolding little total signed laid listOf fieldOf valuesPast entryList options digits nextByte taken itemsPast value numeralOf opOf longer alignment padding word encode number decode kept measureOp measure writeField writeOp readField readOp read boundOp bound listBound pack stringPack unpack stringUnpack toSingle fromSingle ofBits toBits ofInt ofFields odd round nanBits size span climb units trailingZeros
+unfolding little total signed laid listOf fieldOf valuesPast entryList options digits nextByte taken itemsPast value numeralOf opOf longer alignment
+    padding word encode number decode kept measureOp measure writeField writeOp readField readOp read boundOp bound listBound pack stringPack unpack
+    stringUnpack toSingle fromSingle ofBits toBits ofInt ofFields odd round nanBits size span climb units trailingZeros
 entries =
     record {
       after-a-byte = refl;

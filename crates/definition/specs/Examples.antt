@@ -620,7 +620,10 @@ pub record Examples : Type 0 where
   pub of-long-texts : Same long-texts
 
 pub examples : Examples
-unfolding little total signed laid listOf fieldOf valuesPast fieldsAfter entryList options digits nextByte taken itemsPast value numeralOf opOf longer alignment padding word encode number decode kept measureOp measure writeField writeOp readField readOp read boundOp bound listBound firstLine decimalIn printed pack packContinued stringPack unpack stringUnpack toSingle fromSingle ofBits toBits ofInt ofFields odd round nanBits size span climb units trailingZeros
+unfolding little total signed laid listOf fieldOf valuesPast fieldsAfter entryList options digits nextByte taken itemsPast value numeralOf opOf longer
+    alignment padding word encode number decode kept measureOp measure writeField writeOp readField readOp read boundOp bound listBound firstLine
+    decimalIn printed pack packContinued stringPack unpack stringUnpack toSingle fromSingle ofBits toBits ofInt ofFields odd round nanBits size span
+    climb units trailingZeros
 examples =
     record {
       of-numerals = refl;

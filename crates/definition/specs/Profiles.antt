@@ -140,5 +140,7 @@ profiles =
     ∷ []
 
 pub profiles-hold : Hold profiles
-unfolding profiles little total signed laid listOf fieldOf valuesPast entryList options digits nextByte taken itemsPast value numeralOf opOf longer alignment padding word encode number decode measureOp measure writeField writeOp readField readOp read pack stringPack unpack stringUnpack toSingle fromSingle ofBits toBits ofInt ofFields odd round nanBits size span climb units trailingZeros
+unfolding profiles little total signed laid listOf fieldOf valuesPast entryList options digits nextByte taken itemsPast value numeralOf opOf longer
+    alignment padding word encode number decode measureOp measure writeField writeOp readField readOp read pack stringPack unpack stringUnpack
+    toSingle fromSingle ofBits toBits ofInt ofFields odd round nanBits size span climb units trailingZeros
 profiles-hold = refl

@@ -30,7 +30,7 @@ use Rattle.definition.proofs.Fields.{validField}
 use Rattle.definition.specs.Fields.{decode}
 use Rattle.definition.proofs.Ops.{validOp}
 use Rattle.definition.proofs.Numbers.{validSize}
-use Rattle.fetch.specs.Readings.{Within, valueOf, isText, decodedIs, DecodedInside, Decodes, Stands, placeIn, Skips, afterOf, Countable, fetchedIs, FetchedStands, Fetches}
+use Rattle.fetch.specs.Readings.{Within, valueOf, isText, decodedOf, DecodedInside, Decodes, Stands, placeIn, Skips, afterOf, Countable, fetchedOf, FetchedStands, Fetches}
 use Rattle.fetch.specs.declared.decode.Decoded.{Decoded}
 use Rattle.fetch.specs.declared.decode.Decoded.the-variants as Decoded
 use Rattle.fetch.specs.declared.Skipped.{Skipped}
@@ -73,7 +73,7 @@ module _ {d : List ℕ} {s : State} {f : Field} where
     abbrev read-on : Checked (Value × ℕ) → Checked (Place ℕ × List Value)
     read-on c = c >>= λ v. accepted (skipped (placeIn d (atOffset s t)) (v .1), v .0 ∷ [])
 
-    after-is : (y : Decoded) → fetchedIs d s (afterOf t y) ≡ read-on (decodedIs d y)
+    after-is : (y : Decoded) → fetchedOf d s (afterOf t y) ≡ read-on (decodedOf d y)
     after-is (Decoded.Refused j) = refl
     after-is (Decoded.Read r n) = ap (λ (q : Place ℕ). accepted (q, valueOf d r ∷ [])) (sym (skipped-is d (atOffset s t) n))
 
@@ -81,7 +81,7 @@ module _ {d : List ℕ} {s : State} {f : Field} where
     after-stands (Decoded.Refused j) i = tt
     after-stands (Decoded.Read r n) i = (i .1, i .0)
 
-    field-is : read-on (decodedIs d x) ≡ readValue (placeIn d s) (Op.Put f)
+    field-is : read-on (decodedOf d x) ≡ readValue (placeIn d s) (Op.Put f)
     unfolding readOp readField
     field-is = ap read-on (g .says) ∙ rw (← p .says) (go (decode (s .big) f (drop (t .0) d)))
       where

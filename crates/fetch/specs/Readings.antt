@@ -55,9 +55,9 @@ isText (Chars n) = true
 isText ZeroEnded = true
 isText (Counted n) = true
 
-abbrev pub decodedIs : List ℕ → Decoded → Checked (Value × ℕ)
-decodedIs d (Decoded.Refused k) = refused k
-decodedIs d (Decoded.Read r n) = accepted (valueOf d r, n)
+abbrev pub decodedOf : List ℕ → Decoded → Checked (Value × ℕ)
+decodedOf d (Decoded.Refused k) = refused k
+decodedOf d (Decoded.Read r n) = accepted (valueOf d r, n)
 
 abbrev pub DecodedInside : List ℕ → Offset → Decoded → Type 0
 DecodedInside d at (Decoded.Refused k) = Unit {0}
@@ -65,7 +65,7 @@ DecodedInside d at (Decoded.Read r n) = Inside d r × (at .0 + n ≤ length d)
 
 -- r is what a field's bytes at an offset of d give, in a byte order
 pub record Decodes (d : List ℕ) (at : Offset) (big : Bool) (f : Field) (r : Decoded) : Type 0 where
-  pub says : decodedIs d r ≡ decode big f (from d at)
+  pub says : decodedOf d r ≡ decode big f (from d at)
   pub inside : DecodedInside d at r
 
 -- r is the offset of the first zero from `at` on, or the length of d
@@ -84,9 +84,9 @@ Stands d s = Within d (offsetIn s)
 abbrev pub placeIn : List ℕ → State → Place ℕ
 placeIn d s = place s (from d (offsetIn s))
 
-abbrev pub skippedIs : List ℕ → State → Skipped → Checked (Place ℕ)
-skippedIs d s (Skipped.Refused k) = refused k
-skippedIs d s (Skipped.To o) = accepted (placeIn d (atOffset s o))
+abbrev pub skippedOf : List ℕ → State → Skipped → Checked (Place ℕ)
+skippedOf d s (Skipped.Refused k) = refused k
+skippedOf d s (Skipped.To o) = accepted (placeIn d (atOffset s o))
 
 abbrev pub SkippedInside : List ℕ → Skipped → Type 0
 SkippedInside d (Skipped.Refused k) = Unit {0}
@@ -94,7 +94,7 @@ SkippedInside d (Skipped.To o) = Within d o
 
 -- r is the place in d past an alignment by n, and k bytes
 pub record Skips (d : List ℕ) (s : State) (n k : ℕ) (r : Skipped) : Type 0 where
-  pub says : skippedIs d s r ≡ readPad (placeIn d s) n k
+  pub says : skippedOf d s r ≡ readPad (placeIn d s) n k
   pub inside : SkippedInside d r
 
 -- what is decoded at an offset, and the offset after it, which can be counted
@@ -106,10 +106,10 @@ abbrev pub Countable : Offset → Decoded → Type 0
 Countable at (Decoded.Refused k) = Unit {0}
 Countable at (Decoded.Read r n) = at .0 + n < 2 ^ 64
 
-abbrev pub fetchedIs : List ℕ → State → Fetched → Checked (Place ℕ × List Value)
-fetchedIs d s (Fetched.Refused k) = refused k
-fetchedIs d s (Fetched.Set t) = accepted (placeIn d t, [])
-fetchedIs d s (Fetched.Read r o) = accepted (placeIn d (atOffset s o), valueOf d r ∷ [])
+abbrev pub fetchedOf : List ℕ → State → Fetched → Checked (Place ℕ × List Value)
+fetchedOf d s (Fetched.Refused k) = refused k
+fetchedOf d s (Fetched.Set t) = accepted (placeIn d t, [])
+fetchedOf d s (Fetched.Read r o) = accepted (placeIn d (atOffset s o), valueOf d r ∷ [])
 
 abbrev pub FetchedStands : List ℕ → Fetched → Type 0
 FetchedStands d (Fetched.Refused k) = Unit {0}
@@ -118,5 +118,5 @@ FetchedStands d (Fetched.Read r o) = Within d o × Inside d r
 
 -- r is what an item does at the place in d
 pub record Fetches (d : List ℕ) (s : State) (o : Op) (r : Fetched) : Type 0 where
-  pub says : fetchedIs d s r ≡ readValue (placeIn d s) o
+  pub says : fetchedOf d s r ≡ readValue (placeIn d s) o
   pub stands : FetchedStands d r

@@ -7,6 +7,7 @@ use native.Mathlib.Numerals.{add-one, one-add}
 use native.Mathlib.Omega.{arith}
 use lib.Dec.{T, ltb, eqb}
 use lib.Ieee.Bits.{is-true}
+use mir.Facts.{and-yes}
 use lib.ListN.{length, getD, drop}
 use borrow.Author.Tests.{lt-ltb, le-ltb, ltb-true, ltb-false, ne-eqb}
 use Rattle.definition.specs.Answers.{Checked, refused, accepted}
@@ -16,7 +17,7 @@ use Rattle.definition.specs.Ops.{within16, sizeOr, naturalBy}
 use Rattle.definition.specs.Items as Numeral
 use Rattle.format.specs.Packed.{sizeAt, plainAt, entryAt}
 use Rattle.format.specs.Operands.{sizeBy, taking, operandAt, naturalAt, oneMore}
-use Rattle.definition.proofs.Ops.{ok, Sizes, and-parts}
+use Rattle.definition.proofs.Ops.{ok, Sizes}
 use Rattle.format.proofs.Entries.{at-fixed, at-plain, at-signed, at-unsigned, at-counted, at-chars, at-limit, at-align, at-none, sized-by}
 use Rattle.format.proofs.Numerals.{by-digits}
 
@@ -82,8 +83,8 @@ module _ (e : ℕ) (s : List ℕ) where
   own-size d l h = go (ltb e 208) refl
     where
       go : (x : Bool) → ltb e 208 ≡ x → T (within16 (sizeAt e))
-      go true q = and-parts (within16 (sizeAt e)) true (rw (at-signed e l (ltb-true e 208 q)) at d) .0
-      go false q = and-parts (within16 (sizeAt e)) true (rw (at-unsigned e (ltb-false e 208 q) h) at d) .0
+      go true q = and-yes (within16 (sizeAt e)) true (rw (at-signed e l (ltb-true e 208 q)) at d) .0
+      go false q = and-yes (within16 (sizeAt e)) true (rw (at-unsigned e (ltb-false e 208 q) h) at d) .0
 
   numeral : (t : Table) → T (ok (entryAt e)) → 192 ≤ e → e < 224 → oneMore (operandAt t (entryAt e) s) ≡ natural (entryAt e) s
   numeral t d l h =

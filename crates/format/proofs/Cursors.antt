@@ -7,13 +7,14 @@ use mathlib.Core.Option.{Option, none, some}
 use native.Mathlib.Omega.{arith}
 use lib.Dec.{T, ltb, eqb}
 use lib.Ieee.Bits.{is-true}
+use mir.Facts.{and-yes}
 use lib.ListN.{length, getD, drop, drop-of-length-le}
 use borrow.Author.Tests.{ltb-true, ltb-false}
 use Rattle.definition.specs.Answers.{Checked, refused, accepted, _>>=_}
 use Rattle.definition.specs.Options.{Table, Class, NumeralRule, Nothing, Digits, DigitsBehindX, NextByte, Entry}
 use Rattle.definition.specs.Items.{taken, takenBy, numeralOf, Numeral, Missing, TooLarge, Value}
 use Rattle.definition.specs.Ops.{within16, opBy, opWith, opOf}
-use Rattle.definition.proofs.Ops.{entryOk, Sizes, and-parts}
+use Rattle.definition.proofs.Ops.{entryOk, Sizes}
 use Rattle.definition.specs.Options as Class
 use Rattle.definition.specs.declared.Op.{Op}
 use Rattle.definition.specs.declared.Op.the-variants as Op
@@ -35,7 +36,7 @@ op-by Class.NoOption r n h m = refl
 op-by Class.Blank r n h m = refl
 op-by (Class.Order o) r n h m = refl
 op-by Class.Limit r n h m = refl
-op-by (Class.Number k) r n h Missing = rw (is-true (within16 n) (and-parts (within16 n) _ h .0))
+op-by (Class.Number k) r n h Missing = rw (is-true (within16 n) (and-yes (within16 n) _ h .0))
 op-by (Class.Number k) r n h TooLarge = refl
 op-by (Class.Number k) r n h (Value v) = refl
 op-by Class.Chars r n h m = refl

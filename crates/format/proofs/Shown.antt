@@ -15,7 +15,7 @@ use Rattle.definition.specs.Items as Numeral
 use Rattle.numeral.specs.Numerals.{shortOf}
 use Rattle.numeral.specs.declared.Short.{Short}
 use Rattle.numeral.specs.declared.Short.the-variants as Short
-use Rattle.numeral.proofs.Digits.{both-left, both-right}
+use Rattle.definition.proofs.Answers.{both-parts}
 use Rattle.format.specs.Packed.{sizeAt, entryAt}
 use Rattle.format.specs.Operands.{operandBy, operandAt, shownAt}
 use Rattle.format.proofs.Entries.{sized-by, chars-by, limit-by}
@@ -73,8 +73,9 @@ short-is : (s : List ℕ) (n : ℕ) → shortOf (digits s) ≡ Short.Digit n →
 short-is s n q =
     let o = short-digit (digits s) n q in
     let b = digits-digit s (o .digit) [] (o .is) in
-    let l : 48 ≤ o .digit = leb-true 48 (o .digit) (both-left (leb 48 (o .digit)) (leb (o .digit) 57) b) in
-    let h : o .digit ≤ 57 = leb-true (o .digit) 57 (both-right (leb 48 (o .digit)) (leb (o .digit) 57) b) in
+    let p = both-parts (leb 48 (o .digit)) (leb (o .digit) 57) b in
+    let l : 48 ≤ o .digit = leb-true 48 (o .digit) (p .0) in
+    let h : o .digit ≤ 57 = leb-true (o .digit) 57 (p .1) in
     let k = o .some in
     let m = o .made in
     record { numeral = ap numeralOf (o .is) ∙ one-value (o .digit) h ∙ ap Numeral.Value (sym m); one = ap length (o .is); low = least (o .digit) l k m; high = omega arith }

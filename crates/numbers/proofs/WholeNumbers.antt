@@ -1,7 +1,7 @@
 -- T of a float, which the definition states by rounding, over whole numbers.
 use mathlib.Core.Path.{_≡_, refl, sym, ap, _∙_}
 use mathlib.Core.Logic.{_⊎_, inl, inr}
-use mathlib.Core.Bool.{Bool, true, false, not, _&&_, cond, true≢false}
+use mathlib.Core.Bool.{Bool, true, false, not, _&&_, cond}
 use Prim.Native.Nat.{ℕ, zero, suc, _+_, _-_, _*_, _/_, _%_, _^_, _≤_, _<_, min, compare}
 use native.Mathlib.Nat.{le-trans, le-of-eq, le-of-lt, lt-of-lt-of-le, lt-of-le-of-lt, lt-of-not-le, lt-irrefl, mul-comm, mul-assoc, mul-right-comm, mul-one, mul-pos, mul-sub, mul-le-mul-right, mul-le-mul-left, mul-lt-mul-of-pos-right, div-one, mod-one, mod-le, div-lt-iff-lt-mul, le-div-iff-mul-le}
 use native.Mathlib.Omega.{arith}
@@ -17,6 +17,7 @@ use lib.Ieee.Nearest.{closest, closest-same, div-same}
 use lib.Ieee.Scale.{grid, round-val}
 use Rattle.single.proofs.Packing.{rescale}
 use Rattle.definition.specs.Values.{cut, cutFloat, wrapped}
+use Rattle.definition.proofs.Answers.{both-parts}
 use Rattle.numbers.specs.WholeNumbers.{wrappedWhole}
 use Rattle.numbers.proofs.Digits.{whole-few, fraction-few}
 use Rattle.numbers.proofs.Remainders.{left, left-lt, scaled, left-fraction}
@@ -112,12 +113,8 @@ wrapped-in-whole-numbers nan f = refl
 wrapped-in-whole-numbers (inf s) f = refl
 wrapped-in-whole-numbers (fin s m e) f = go (s && ltb 0 (left m e)) refl
   where
-    some-left : (s : Bool) (r : ℕ) → (s && ltb 0 r) ≡ true → 0 < r
-    some-left true r h = ltb-true 0 r h
-    some-left false r h = absurd (true≢false (sym h))
-
     go : (t : Bool) → (s && ltb 0 (left m e)) ≡ t
         → cond t (cutFloat (round binary64 false (2 ^ 64 * down e - left m e) (down e))) (cut (left m e) (down e))
         ≡ cond t (min (closest (2 ^ 64 * down e - left m e) (2048 * down e) * 2048) (2 ^ 64 - 1)) (left m e / down e)
-    go true h = cut-value (round binary64 false (2 ^ 64 * down e - left m e) (down e)) (closest (2 ^ 64 * down e - left m e) (2048 * down e) * 2048) (sum-value (left m e) (down e) (down-pos e) (left-lt m e) (some-left s (left m e) h) (coarse s m e f))
+    go true h = cut-value (round binary64 false (2 ^ 64 * down e - left m e) (down e)) (closest (2 ^ 64 * down e - left m e) (2048 * down e) * 2048) (sum-value (left m e) (down e) (down-pos e) (left-lt m e) (ltb-true 0 (left m e) (both-parts s (ltb 0 (left m e)) h .1)) (coarse s m e f))
     go false h = let small : left m e / down e < 2 ^ 64 = div-lt-iff-lt-mul (down-pos e) .1 (left-lt m e) in omega arith

@@ -1,7 +1,7 @@
 -- Laws of digits at a place, and of what the readers of a numeral answer.
 use Prim.Native.Nat.{ℕ, zero, suc, _+_, _*_, _-_, _^_, _≤_, _<_}
 use mathlib.Core.Path.{_≡_, refl, sym, ap, _∙_}
-use mathlib.Core.Bool.{Bool, true, false, _&&_, cond}
+use mathlib.Core.Bool.{Bool, true, false, cond}
 use mathlib.Core.List.{List, [], _∷_}
 use native.Mathlib.Nat.{add-zero, zero-add, le-refl, le-trans, min-le-left, min-le-right}
 use native.Mathlib.Numerals.{add-one}
@@ -12,6 +12,7 @@ use lib.Seq.{drop-cons, take-all}
 use borrow.Author.Tests.{lt-ltb, le-ltb, ltb-false, leb-true, ne-eqb}
 use Rattle.definition.specs.Items.{isDigit, digits, value, numeralOf}
 use Rattle.definition.specs.Items as Numeral
+use Rattle.definition.proofs.Answers.{both-parts}
 use Rattle.numeral.specs.Numerals.{digitFirst, grown, digitOn, readOn, scanBy, scanned, shortOf}
 use Rattle.numeral.specs.declared.Digit.{Digit}
 use Rattle.numeral.specs.declared.Digit.the-variants as Digit
@@ -45,22 +46,14 @@ first-inside [] (suc at) e = let z : _≡_ {A = ℕ} 0 1 = cc in omega arith
 first-inside (b ∷ s) zero e = omega arith
 first-inside (b ∷ s) (suc at) e = omega (arith, first-inside s at e)
 
-pub both-left : (a b : Bool) → (a && b) ≡ true → a ≡ true
-both-left true b e = refl
-both-left false b e = e
-
-pub both-right : (a b : Bool) → (a && b) ≡ true → b ≡ true
-both-right true b e = e
-both-right false b e = let z : _≡_ {A = ℕ} 0 1 = cc in absurd (omega arith)
-
 first-digit : (s : List ℕ) (at : ℕ) → digitFirst (drop at s) ≡ true → isDigit (getD s at 0) ≡ true
 first-digit s at e = sym (first-at s at (first-inside s at e)) ∙ e
 
 pub first-48 : (s : List ℕ) (at : ℕ) → digitFirst (drop at s) ≡ true → 48 ≤ getD s at 0
-first-48 s at e = leb-true 48 (getD s at 0) (both-left (leb 48 (getD s at 0)) (leb (getD s at 0) 57) (first-digit s at e))
+first-48 s at e = leb-true 48 (getD s at 0) (both-parts (leb 48 (getD s at 0)) (leb (getD s at 0) 57) (first-digit s at e) .0)
 
 first-57 : (s : List ℕ) (at : ℕ) → digitFirst (drop at s) ≡ true → getD s at 0 ≤ 57
-first-57 s at e = leb-true (getD s at 0) 57 (both-right (leb 48 (getD s at 0)) (leb (getD s at 0) 57) (first-digit s at e))
+first-57 s at e = leb-true (getD s at 0) 57 (both-parts (leb 48 (getD s at 0)) (leb (getD s at 0) 57) (first-digit s at e) .1)
 
 -- ---- digits
 pub digits-stop : (s : List ℕ) → digitFirst s ≡ false → digits s ≡ []

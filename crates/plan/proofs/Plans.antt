@@ -2,7 +2,7 @@
 use Prim.Native.Nat.{ℕ, _+_, _-_, _^_, _≤_, _<_, min}
 use native.Mathlib.Omega.{arith}
 use mathlib.Core.Path.{_≡_, refl, sym, ap, _∙_, subst}
-use mathlib.Core.Bool.{Bool, true, false, not, _&&_}
+use mathlib.Core.Bool.{true, false}
 use mathlib.Core.List.{List, [], _∷_, _++_, map}
 use lib.Dec.{T, leb, eqb→eq, leb→le, ltb→lt}
 use lib.ListN.{length, take, drop}
@@ -25,7 +25,7 @@ use Rattle.definition.specs.declared.Field.{Field}
 use Rattle.definition.specs.declared.Field.the-variants as Field
 use Rattle.definition.specs.declared.Op.{Op}
 use Rattle.definition.specs.declared.Op.the-variants as Op
-use Rattle.definition.proofs.Answers.{same, bound, passed, true-not-false}
+use Rattle.definition.proofs.Answers.{same, bound, passed, both-parts}
 use Rattle.definition.proofs.Bytes.{length-laid}
 use Rattle.definition.proofs.Calls.{Sound}
 use Rattle.definition.proofs.Fields.{validField}
@@ -58,12 +58,7 @@ padding-lt s n p e =
     below = power-cases (λ a. fill a (s .length) < 16) (omega arith) (omega arith) (omega arith) (omega arith) (omega arith)
 
 pub sound-length : (s : State) → Sound s → s .length ≤ 2 ^ 63 - 1
-sound-length s h = go (isPower (s .limit)) (atMost63 (s .length)) refl h
-  where
-    go : (a b : Bool) → atMost63 (s .length) ≡ b → (a && b) ≡ true → s .length ≤ 2 ^ 63 - 1
-    go true true e i = leb-true (s .length) (2 ^ 63 - 1) e
-    go true false e i = absurd (true-not-false (sym i))
-    go false b e i = absurd (true-not-false (sym i))
+sound-length s h = leb-true (s .length) (2 ^ 63 - 1) (both-parts (isPower (s .limit)) (atMost63 (s .length)) h .1)
 
 -- ---- 9
 no-room : (s : State) (n : ℕ) → leb (s .length + n) (2 ^ 63 - 1) ≡ false → longer s n ≡ refused 9
@@ -241,12 +236,3 @@ skips l at s vs known = refl
 pub sets-state : (l : List ℕ) (at : ℕ) (s : State) (x : Setting) → ItemAt l at s (Op.Set x) (Plan.Set x)
 unfolding writeOp
 sets-state l at s x vs known = refl
-
--- ---- a test that was negated
-pub was-true : (b : Bool) → not b ≡ false → b ≡ true
-was-true true e = refl
-was-true false e = absurd (true-not-false e)
-
-pub was-false : (b : Bool) → not b ≡ true → b ≡ false
-was-false true e = absurd (true-not-false (sym e))
-was-false false e = refl

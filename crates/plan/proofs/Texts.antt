@@ -4,11 +4,12 @@ use native.Mathlib.Omega.{arith}
 use native.Mathlib.Nat.{add-assoc}
 use native.Mathlib.Numerals.{add-one}
 use mathlib.Core.Path.{_≡_, refl, sym, ap, _∙_, subst}
-use mathlib.Core.Bool.{Bool, true, false, _&&_, _||_, cond, or-true}
+use mathlib.Core.Bool.{Bool, true, false, _||_, cond, or-true}
 use mathlib.Core.List.{List, [], _∷_, _++_, append-nil}
 use mathlib.Core.Logic.{⊎-elim}
 use mathlib.Core.Option.{none}
-use lib.Dec.{T, leb, ltb, eqb}
+use lib.Dec.{T, leb, ltb, eqb, leb→le}
+use mir.Facts.{and-yes}
 use lib.ListN.{length, take, drop, getD, replicate, length-append, length-drop, length-replicate}
 use lib.Seq.{length-take-le, take-suc, getD-drop}
 use types.Run.{OneOf}
@@ -120,12 +121,7 @@ module _ (o : Bool) (l : List ℕ) (start n : ℕ) (within : start + n ≤ lengt
   counted-bytes m h = rw (size, h, append-nil part)
 
 pub within-to-16 : (n : ℕ) → T (within16 n) → n ≤ 16
-within-to-16 n h = go (leb 1 n) (leb n 16) refl h
-  where
-    go : (t u : Bool) → leb n 16 ≡ u → T (t && u) → n ≤ 16
-    go true true e h = leb-true n 16 e
-    go true false e h = absurd h
-    go false u e h = absurd h
+within-to-16 n h = leb→le n 16 (and-yes (leb 1 n) (leb n 16) h .1)
 
 -- the length of a text of a list fits all sizes but one byte
 pub count-one : (m n : ℕ) → m ≡ 1 → leb n 255 ≡ ltb n (256 ^ m)

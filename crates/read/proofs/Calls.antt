@@ -2,7 +2,7 @@
 use Prim.Native.Nat.{ℕ, suc, _+_, _-_, _^_, _≤_, _<_}
 use native.Mathlib.Omega.{arith}
 use mathlib.Core.Path.{_≡_, refl, sym, ap, _∙_}
-use mathlib.Core.Bool.{Bool, true, false, _&&_}
+use mathlib.Core.Bool.{true, _&&_}
 use mathlib.Core.List.{List}
 use lib.Dec.{leb, ltb}
 use lib.IntN.{ℤ, pos, negsuc}
@@ -20,7 +20,7 @@ use Rattle.definition.specs.declared.State.{State}
 use Rattle.definition.specs.declared.Offset.{Offset}
 use Rattle.definition.specs.declared.Position.{Position}
 use Rattle.definition.specs.declared.Unpacked.{Unpacked}
-use Rattle.definition.proofs.Answers.{same, passed, true-not-false}
+use Rattle.definition.proofs.Answers.{same, passed, both-parts}
 use Rattle.definition.proofs.Calls.{into-fits}
 use Rattle.definition.proofs.Traces.{listed, unpack-values}
 use Rattle.read.specs.Runs.{readAt, Reads, Fits, listInto, listAfter}
@@ -30,11 +30,7 @@ pub offset-inside : (p : ℤ) (len : ℕ) {o : Offset} → accepted o ≡ offset
 offset-inside (pos p) len {o} e =
     let q = passed (leb 1 p && leb p (len + 1)) 16 (accepted (offset (p - 1))) (sym e) in
     let i : p - 1 ≡ o .0 = ap (λ (x : Offset). x .0) (same (q .1)) in
-    omega (arith, i, leb-true p (len + 1) (right (leb 1 p) (leb p (len + 1)) (q .0)))
-  where
-    right : (a b : Bool) → (a && b) ≡ true → b ≡ true
-    right true b h = h
-    right false b h = absurd (true-not-false (sym h))
+    omega (arith, i, leb-true p (len + 1) (both-parts (leb 1 p) (leb p (len + 1)) (q .0) .1))
 offset-inside (negsuc k) len {o} e =
     let q = passed (ltb k len) 16 (accepted (offset (len - suc k))) (sym e) in
     let i : len - suc k ≡ o .0 = ap (λ (x : Offset). x .0) (same (q .1)) in

@@ -5,8 +5,8 @@ use mathlib.Core.Path.{_≡_, refl, sym, ap, _∙_, subst}
 use mathlib.Core.Bool.{Bool, true, false, cond}
 use mathlib.Core.List.{List, [], _∷_, _++_}
 use mathlib.Core.Option.{none, some}
-use lib.ListN.{length, take, drop, length-append, length-drop}
-use lib.Seq.{paste, take-at, take-all, drop-drop, drop-append-add}
+use lib.ListN.{length, drop, length-append, length-drop}
+use lib.Seq.{paste}
 use Rattle.definition.specs.Answers.{Checked, refused, accepted}
 use Rattle.definition.specs.Options.{Table}
 use Rattle.definition.specs.Ops.{ops}
@@ -21,6 +21,7 @@ use Rattle.definition.specs.declared.Op.{Op}
 use Rattle.definition.proofs.Answers.{never, after-accepted}
 use Rattle.definition.proofs.Lists.{list-append}
 use Rattle.format.specs.Steps.{nextAt}
+use Rattle.coder.proofs.Pasting.{paste-front}
 use Rattle.fetch.specs.Readings.{valueOf, Inside, Stands, placeIn, FetchedStands, Fetches}
 use Rattle.fetch.specs.declared.decode.Reading.{Reading}
 use Rattle.fetch.specs.declared.Fetched.{Fetched}
@@ -32,14 +33,6 @@ use Rattle.read.proofs.Runs.{SoFar, from-start, run-end, run-refusal, i
 -- x at the front of b
 abbrev fronted : List ℕ → List ℕ → List ℕ
 fronted x b = x ++ drop (length x) b
-
--- the bytes v behind x
-paste-behind : (x v b : List ℕ) (n : ℕ) → length v ≡ n → paste (fronted x b) (length x) v n ≡ fronted (x ++ v) b
-paste-behind x v b n k =
-    let t : take (length x) (fronted x b) ≡ x = take-at x (drop (length x) b) (length x) refl in
-    let r : drop (length x + n) (fronted x b) ≡ drop (length x + n) b = drop-append-add x (drop (length x) b) n ∙ drop-drop n (length x) b in
-    let e : length x + n ≡ length (x ++ v) = omega (arith, length-append x v) in
-    rw (t, r, take-all n v (omega arith), e)
 
 -- what was read so far is at most what is read in all
 within : {t : Table} {f d : List ℕ} {w : Checked (Place ℕ × List Value)} {at : ℕ} {s : State} {vs : List Value} → SoFar t f d w at s vs
@@ -145,11 +138,13 @@ module _ {t : Table} {f d : List ℕ} {s₀ : State} {b : List ℕ} {put : Bool}
 
         pub passing-put : (k : List ℕ) → k ≡ paste l total one (sizeOf v) → k ≡ holding put b more
         passing-put k c =
+            let all : length sofar + sizeOf v ≡ length (sofar ++ one) = omega (arith, length-append sofar one, size-is d v inside) in
             let x : l ≡ fronted sofar b = h .holds ∙ ap (λ (x : Bool). holding x b (h .done)) i in
             c
             ∙ ap (λ (j : ℕ). paste l j one (sizeOf v)) exact
             ∙ ap (λ (y : List ℕ). paste y (length sofar) one (sizeOf v)) x
-            ∙ paste-behind sofar one b (sizeOf v) (size-is d v inside)
+            ∙ paste-front b sofar (length sofar) refl one (sizeOf v) (size-is d v inside)
+            ∙ ap (λ (j : ℕ). (sofar ++ one) ++ drop j b) all
             ∙ ap (λ (y : List ℕ). fronted y b) (sym (list-parts (h .done) (valueOf d v ∷ [])))
             ∙ sym (ap (λ (x : Bool). holding x b more) i)
 

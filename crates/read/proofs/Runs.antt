@@ -15,7 +15,7 @@ use Rattle.definition.specs.declared.Op.{Op}
 use Rattle.definition.proofs.Traces.{readValue}
 use Rattle.format.specs.Steps.{nextAt}
 use Rattle.format.proofs.Walking as Walk
-use Rattle.fetch.specs.Readings.{valueOf, Stands, placeIn, fetchedIs, FetchedStands, Fetches}
+use Rattle.fetch.specs.Readings.{valueOf, Stands, placeIn, fetchedOf, FetchedStands, Fetches}
 use Rattle.fetch.specs.declared.decode.Reading.{Reading}
 use Rattle.fetch.specs.declared.Fetched.{Fetched}
 use Rattle.fetch.specs.declared.Fetched.the-variants as Fetched
@@ -39,8 +39,8 @@ module _ {t : Table} {f d : List ℕ} {w : Checked (Place ℕ × List Value)} {a
   -- the item at the place does o, the next one stands at p, and r is what the item reads
   module _ {o : Op} {p : ℕ} (q : nextAt t at (drop at f) ≡ accepted (some (o, p))) {r : Fetched} (g : Fetches d s o r) where
     -- by what r is
-    told : {x : Fetched} → r ≡ x → readValue (placeIn d s) o ≡ fetchedIs d s x
-    told e = sym (g .says) ∙ ap (fetchedIs d s) e
+    told : {x : Fetched} → r ≡ x → readValue (placeIn d s) o ≡ fetchedOf d s x
+    told e = sym (g .says) ∙ ap (fetchedOf d s) e
 
     pub item-refused : {k : ℕ} → r ≡ Fetched.Refused k → w ≡ refused k
     item-refused e = Walk.walk-refused readValue [] _++_ (λ vs. refl) append-nil append-assoc (h .walk) q (told e)

@@ -4,7 +4,8 @@ use mathlib.Core.Path.{_≡_, sym, ap, _∙_}
 use mathlib.Core.Logic.{_⊎_, inl, inr, ⊎-map}
 use mathlib.Core.Bool.{Bool, false, cond}
 use Prim.Native.Nat.{ℕ, suc, _+_, _-_, _*_, _/_, _%_, _^_, _≤_, _<_, compare}
-use native.Mathlib.Nat.{le-refl, le-trans, lt-of-lt-of-le, lt-of-not-le, not-le-of-lt, eq-or-lt-of-le, zero-add, add-assoc, add-mul, mul-assoc, mul-comm, mul-right-comm, mul-pos, mul-le-mul-right, eq-of-mul-eq-mul-right, mul-div-cancel, div-div-eq-div-mul, div-lt-iff-lt-mul, le-div-iff-mul-le, suc-mul, pow-succ'}
+use native.Mathlib.Nat.{le-refl, le-trans, lt-of-lt-of-le, lt-of-not-le, not-le-of-lt, eq-or-lt-of-le, zero-add, add-assoc, add-mul}
+use native.Mathlib.Nat.{mul-assoc, mul-comm, mul-right-comm, mul-pos, mul-le-mul-right, eq-of-mul-eq-mul-right, mul-div-cancel, div-div-eq-div-mul, div-lt-iff-lt-mul, le-div-iff-mul-le, suc-mul, pow-succ'}
 use native.Mathlib.Omega.{arith}
 use lib.Dec.{ltb}
 use lib.Arith.{le→nltb}

@@ -22,7 +22,7 @@ use Rattle.definition.proofs.Calls.{Sound, pack-run, length-record, into-fits}
 use Rattle.definition.proofs.Cutting.{plain-is}
 use Rattle.values.specs.Meaning.{isAccepted}
 use Rattle.values.proofs.Lists.{refused-list}
-use Rattle.write.specs.Answers.{totalIs, continuedIs}
+use Rattle.write.specs.Answers.{answerOf, continuedCallOf}
 use Rattle.write.specs.Walks.{valuesOf, summed, FitsAt, putAt}
 use Rattle.write.specs.declared.Total.{Total}
 use Rattle.write.specs.declared.Total.the-variants as Total
@@ -62,13 +62,13 @@ module _ (t : Table) (is : t ≡ options) (s : State) (f l b : List ℕ) where
 
       -- g is the buffer after the first pass, which is as it was
       module _ {g : List ℕ} (kept : g ≡ b) where
-        pub total-refused : {r : Total} {k : ℕ} → r ≡ Total.Refused k → totalIs r ≡ summed (write t s (valuesOf l) f) → continuedIs r g ≡ packContinued s f l b
-        total-refused {r} {k} e h = rw (kept, e) (refused-call k (sym (ap totalIs e) ∙ h))
+        pub total-refused : {r : Total} {k : ℕ} → r ≡ Total.Refused k → answerOf r ≡ summed (write t s (valuesOf l) f) → continuedCallOf r g ≡ packContinued s f l b
+        total-refused {r} {k} e h = rw (kept, e) (refused-call k (sym (ap answerOf e) ∙ h))
 
-        module _ {r : Total} {a : Continued} (told : r ≡ Total.Of a) (e : totalIs r ≡ summed (write t s (valuesOf l) f)) where
+        module _ {r : Total} {a : Continued} (told : r ≡ Total.Of a) (e : answerOf r ≡ summed (write t s (valuesOf l) f)) where
           -- the writing that is accepted with the totals a
           made : Bound (write t s (valuesOf l) f) (λ r. accepted (continuedOf r)) a
-          made = bound (write t s (valuesOf l) f) _ (sym e ∙ ap totalIs told)
+          made = bound (write t s (valuesOf l) f) _ (sym e ∙ ap answerOf told)
 
           size : length (made .val .1 .cells) ≡ a .written
           size = ap (λ (x : Continued). x .written) (same (made .rest))
@@ -96,7 +96,7 @@ module _ (t : Table) (is : t ≡ options) (s : State) (f l b : List ℕ) where
                 ap (call (accepted a)) front ∙ sym (accepted-is ∙ into-fits b _ m n ∙ ap (λ (x : Continued). call (accepted x) (m ++ drop (length m) b)) (same (made .rest)))
 
 -- ---- plain writing: continued writing from the start state, and the record's length
-pub plain-call : (f l b d : List ℕ) {r q : Total} {s : State} → r ≡ q → s ≡ start → continuedIs r d ≡ packContinued s f l b → call (totalIs q >>= λ a. accepted (a .written)) d ≡ stringPack f l b
+pub plain-call : (f l b d : List ℕ) {r q : Total} {s : State} → r ≡ q → s ≡ start → continuedCallOf r d ≡ packContinued s f l b → call (answerOf q >>= λ a. accepted (a .written)) d ≡ stringPack f l b
 plain-call f l b d e g h =
     let from = ap (λ (x : State). packContinued x f l b) g in
-    ap (λ (c : Call Continued). call (c .answer >>= λ a. accepted (a .written)) (c .buffer)) (sym (ap (λ (x : Total). continuedIs x d) e) ∙ h ∙ from) ∙ sym (plain-is f l b)
+    ap (λ (c : Call Continued). call (c .answer >>= λ a. accepted (a .written)) (c .buffer)) (sym (ap (λ (x : Total). continuedCallOf x d) e) ∙ h ∙ from) ∙ sym (plain-is f l b)

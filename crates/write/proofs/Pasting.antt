@@ -1,24 +1,15 @@
 -- Laws of stores into the record.
 use Prim.Native.Nat.{ℕ, _+_, _≤_}
 use native.Mathlib.Omega.{arith}
-use native.Mathlib.Nat.{zero-add, add-assoc, le-of-eq}
-use mathlib.Core.Path.{_≡_, refl, sym, ap, _∙_}
+use native.Mathlib.Nat.{zero-add, add-assoc}
+use mathlib.Core.Path.{_≡_, refl, ap, _∙_}
 use mathlib.Core.Bool.{Bool}
 use mathlib.Core.List.{List, [], _++_, append-assoc}
-use lib.ListN.{length, take, drop, replicate, length-append, length-replicate}
-use lib.Seq.{paste, length-paste, take-at, drop-at, drop-drop, take-all}
+use lib.ListN.{length, drop, replicate, length-append, length-replicate}
+use lib.Seq.{paste, length-paste}
 use Rattle.definition.specs.Bytes.{laid}
-use Rattle.coder.proofs.Pasting.{paste-on}
+use Rattle.coder.proofs.Pasting.{paste-on, paste-front}
 use Rattle.definition.proofs.Bytes.{length-laid}
-
-whole : (m : ℕ) (y : List ℕ) → length y ≡ m → take m y ≡ y
-whole m y e = take-all m y (le-of-eq e)
-
--- a list that begins with x, and y put after it
-pub paste-front : (d x : List ℕ) (n : ℕ) → length x ≡ n → (y : List ℕ) (m : ℕ) → length y ≡ m → paste (x ++ drop n d) n y m ≡ (x ++ y) ++ drop (n + m) d
-paste-front d x n e y m f =
-    let rest : drop (n + m) (x ++ drop n d) ≡ drop (n + m) d = sym (drop-drop m n (x ++ drop n d)) ∙ ap (drop m) (drop-at x (drop n d) n e) ∙ drop-drop m n d in
-    rw (take-at x (drop n d) n e, whole m y f, rest)
 
 -- y put at the front
 pub paste-whole : (d y : List ℕ) (m : ℕ) → length y ≡ m → paste d 0 y m ≡ y ++ drop m d

@@ -4,7 +4,7 @@ use native.Mathlib.Nat.{add-zero}
 use native.Mathlib.Omega.{arith}
 use mathlib.Core.Path.{_≡_, refl, sym, ap, _∙_, subst}
 use mathlib.Core.Bool.{Bool, true, false, cond}
-use mathlib.Core.List.{List, [], _∷_, _++_, map}
+use mathlib.Core.List.{List, [], _∷_, _++_, map, map-append}
 use lib.ListN.{length, drop, replicate, length-append, length-replicate, length-map}
 use lib.Seq.{paste, paste-zero}
 use Rattle.definition.specs.Answers.{Checked, refused, accepted}
@@ -16,7 +16,6 @@ use Rattle.definition.specs.Writing.{Cell, pad, byte, pads, zeroed, Output, out
 use Rattle.definition.specs.declared.State.{State}
 use Rattle.definition.specs.declared.Setting.{Setting}
 use Rattle.definition.specs.declared.Op.{Op}
-use Rattle.definition.proofs.Cells.{map-append}
 use Rattle.values.specs.Meaning.{isAccepted}
 use Rattle.plan.specs.Plans.{textBytes, Wrote, ItemPlan, ItemAt}
 use Rattle.word.specs.Words.{fillOf}

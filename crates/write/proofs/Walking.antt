@@ -4,7 +4,7 @@ use native.Mathlib.Nat.{add-zero}
 use native.Mathlib.Omega.{arith}
 use mathlib.Core.Path.{_≡_, refl, sym, ap, _∙_, subst}
 use mathlib.Core.Bool.{Bool, true, false, cond}
-use mathlib.Core.List.{List, _++_}
+use mathlib.Core.List.{List, _++_, map-append}
 use mathlib.Core.Option.{none, some}
 use lib.Dec.{T}
 use lib.ListN.{length, drop, length-append}
@@ -20,7 +20,6 @@ use Rattle.definition.specs.declared.Continued.{Continued}
 use Rattle.definition.specs.declared.State.{State}
 use Rattle.definition.specs.declared.Op.{Op}
 use Rattle.definition.proofs.Calls.{Sound, step-sound, length-record}
-use Rattle.definition.proofs.Cells.{map-append}
 use Rattle.definition.proofs.Cutting.{nothing-left, nothing-right, join-assoc}
 use Rattle.definition.proofs.Ops.{validOp, Sizes}
 use Rattle.definition.proofs.Steps.{length-step, step-of}
@@ -29,7 +28,8 @@ use Rattle.format.specs.Steps.{nextAt}
 use Rattle.format.proofs.Walking.{Walked, valid, ahead, walk-none, walk-end, walk-refusal, walk-refused, walk-on}
 use Rattle.write.specs.Walks.{valuesOf, summed, FitsAt, putAt, totalsOf, written, Moved}
 use Rattle.write.specs.declared.pass.Progress.{Progress}
-use Rattle.write.proofs.Pasting.{paste-front, paste-whole}
+use Rattle.coder.proofs.Pasting.{paste-front}
+use Rattle.write.proofs.Pasting.{paste-whole}
 
 abbrev progress : State → ℕ → ℕ → ℕ → Progress
 progress s at u i = record { state = s; at = at; used = u; items = i }

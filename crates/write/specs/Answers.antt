@@ -10,14 +10,14 @@ use Rattle.write.specs.declared.Total.{Total}
 use Rattle.write.specs.declared.Total.the-variants as Total
 
 -- the totals of a pass
-abbrev pub totalIs : Total → Checked Continued
-totalIs (Total.Refused k) = refused k
-totalIs (Total.Of c) = accepted c
+abbrev pub answerOf : Total → Checked Continued
+answerOf (Total.Refused k) = refused k
+answerOf (Total.Of c) = accepted c
 
 -- a call's answer, with what its buffer then holds
-abbrev pub continuedIs : Total → List ℕ → Call Continued
-continuedIs r b = call (totalIs r) b
+abbrev pub continuedCallOf : Total → List ℕ → Call Continued
+continuedCallOf r b = call (answerOf r) b
 
-abbrev pub packedIs : Packed → List ℕ → Call ℕ
-packedIs (Packed.Refused k) b = call (refused k) b
-packedIs (Packed.Length n) b = call (accepted n) b
+abbrev pub packedCallOf : Packed → List ℕ → Call ℕ
+packedCallOf (Packed.Refused k) b = call (refused k) b
+packedCallOf (Packed.Length n) b = call (accepted n) b

@@ -11,7 +11,7 @@ use format::options::OPTIONS;
 use values::is_list;
 ghost use mathlib.Core.Path.{_≡_};
 ghost use Rattle.definition.specs.Calls.{packContinued, stringPack};
-ghost use Rattle.write.specs.Answers.{continuedIs, packedIs};
+ghost use Rattle.write.specs.Answers.{continuedCallOf, packedCallOf};
 
 // What continued writing answers, or the number of a refusal.
 pub enum Total {
@@ -21,7 +21,7 @@ pub enum Total {
 
 // Continued writing: the record stands at the buffer's front, and no other byte has changed; or a refusal, and none has.
 pub fn pack_continued(state: State, format: &[u8], list: &[u8], out: &mut [u8]) -> Total
-    ensures { λ r. ⌜ continuedIs r (now (out .exit)) ≡ packContinued state (now (format .entry)) (now (list .entry)) (now (out .entry)) ⌝ }
+    ensures { λ r. ⌜ continuedCallOf r (now (out .exit)) ≡ packContinued state (now (format .entry)) (now (list .entry)) (now (out .entry)) ⌝ }
 {
     if !is_sound(state) {
         return Total::Refused(21);
@@ -50,7 +50,7 @@ pub enum Packed {
 
 // Plain writing.
 pub fn string_pack(format: &[u8], list: &[u8], out: &mut [u8]) -> Packed
-    ensures { λ r. ⌜ packedIs r (now (out .exit)) ≡ stringPack (now (format .entry)) (now (list .entry)) (now (out .entry)) ⌝ }
+    ensures { λ r. ⌜ packedCallOf r (now (out .exit)) ≡ stringPack (now (format .entry)) (now (list .entry)) (now (out .entry)) ⌝ }
 {
     match pack_continued(start(), format, list, out) {
         Total::Refused(k) => Packed::Refused(k),

@@ -23,7 +23,7 @@ ghost use Rattle.definition.proofs.Calls.{Sound};
 ghost use Rattle.definition.proofs.Ops.{validOp, Sizes};
 ghost use Rattle.values.specs.Meaning.{isAccepted};
 ghost use Rattle.format.specs.Packed.{tableAt};
-ghost use Rattle.write.specs.Answers.{totalIs};
+ghost use Rattle.write.specs.Answers.{answerOf};
 ghost use Rattle.write.specs.Walks.{passed, taken, totalsOf, valuesOf, summed, written, FitsAt, putAt, Stepped};
 
 // How far a pass has come: the state, where the list's next field starts, the values used and the items run.
@@ -130,7 +130,7 @@ pub fn pass(
     put: bool,
 ) -> Total
     requires { ⌜ Sizes (tableAt (now table)) ⌝ ∗ ⌜ isAccepted (values (now list)) ≡ true ⌝ ∗ ⌜ Sound start ⌝ ∗ ⌜ (put ≡ true → FitsAt (length (now out)) 0 (writing.write (tableAt (now table)) start (valuesOf (now list)) (now format))) ⌝ }
-    ensures total { λ r. ⌜ totalIs r ≡ summed (writing.write (tableAt (now (table .entry))) start (valuesOf (now (list .entry))) (now (format .entry))) ⌝ }
+    ensures total { λ r. ⌜ answerOf r ≡ summed (writing.write (tableAt (now (table .entry))) start (valuesOf (now (list .entry))) (now (format .entry))) ⌝ }
     ensures bytes { λ r. ⌜ now (out .exit) ≡ cond put (putAt (now (out .entry)) 0 (writing.write (tableAt (now (table .entry))) start (valuesOf (now (list .entry))) (now (format .entry)))) (now (out .entry)) ⌝ }
 {
     let base = start.length;

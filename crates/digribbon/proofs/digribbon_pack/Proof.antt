@@ -1,5 +1,5 @@
 -- What `string_pack` ensures is passed on, by the case of its answer.
-use Rattle.write.specs.Answers.{packedIs}
+use Rattle.write.specs.Answers.{packedCallOf}
 use Rattle.digribbon.specs.Answers.{word}
 use Rattle.digribbon.proofs.Seen.{seen}
 use borrow.Author.Needs.{needs}
@@ -24,7 +24,7 @@ same-length c = search needs
 returns : tie.Need-returns
 returns c =
     let p = c .before .before .before .before .before in
-    seen word (p .before .before .before .before .before .args .answer .now) (p .string-pack .last .1 .1 .0) packedIs (c .before .k .given .1) (p .string-pack .ensures)
+    seen word (p .before .before .before .before .before .args .answer .now) (p .string-pack .last .1 .1 .0) packedCallOf (c .before .k .given .1) (p .string-pack .ensures)
 
 same-length-2 : tie.Need-same-length-2
 same-length-2 c = search needs
@@ -32,7 +32,7 @@ same-length-2 c = search needs
 returns-2 : tie.Need-returns-2
 returns-2 c =
     let p = c .before .before .before .before .before .before in
-    seen word (p .before .before .before .before .before .args .answer .now) (p .string-pack .last .1 .1 .0) packedIs (c .before .before .length .given .1) (p .string-pack .ensures)
+    seen word (p .before .before .before .before .before .args .answer .now) (p .string-pack .last .1 .1 .0) packedCallOf (c .before .before .length .given .1) (p .string-pack .ensures)
 
 pub digribbon-pack-spec : {M : Type 1} → statement M
 digribbon-pack-spec =

@@ -4,7 +4,7 @@ use mathlib.Core.Bool.{Bool, true, false, cond}
 use mir.Val.{boolByte}
 use Rattle.definition.specs.Calls.{packContinued}
 use Rattle.definition.specs.declared.State.{State}
-use Rattle.write.specs.Answers.{continuedIs}
+use Rattle.write.specs.Answers.{continuedCallOf}
 use Rattle.digribbon.specs.Answers.{continuedWords}
 use Rattle.digribbon.proofs.Seen.{seen}
 use borrow.Author.Needs.{needs}
@@ -42,7 +42,7 @@ returns c =
     let p = c .before .before .before .before .before in
     let a = p .before .before .before .before .before .before .args in
     let same = ap (λ (s : State). packContinued s (a .format .now) (a .list .now) (a .«record» .now)) (p .before .before .state .ensures) in
-    seen continuedWords (a .answer .now) (p .pack-continued .last .1 .1 .1 .0) continuedIs (c .before .k .given .1) (p .pack-continued .ensures ∙ same)
+    seen continuedWords (a .answer .now) (p .pack-continued .last .1 .1 .1 .0) continuedCallOf (c .before .k .given .1) (p .pack-continued .ensures ∙ same)
 
 same-length-2 : tie.Need-same-length-2
 same-length-2 c = search needs
@@ -53,7 +53,7 @@ returns-2 c =
     let p = m .before .before .before .before .before in
     let a = p .before .before .before .before .before .before .args in
     let same = ap (λ (s : State). packContinued s (a .format .now) (a .list .now) (a .«record» .now)) (p .before .before .state .ensures) in
-    rw as-number (seen continuedWords (a .answer .now) (p .pack-continued .last .1 .1 .1 .0) continuedIs (m .before .c .given .1) (p .pack-continued .ensures ∙ same))
+    rw as-number (seen continuedWords (a .answer .now) (p .pack-continued .last .1 .1 .1 .0) continuedCallOf (m .before .c .given .1) (p .pack-continued .ensures ∙ same))
 
 pub digribbon-pack-continued-spec : {M : Type 1} → statement M
 digribbon-pack-continued-spec =

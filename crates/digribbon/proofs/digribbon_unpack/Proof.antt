@@ -3,7 +3,8 @@ use mathlib.Core.Path.{_≡_, ap, _∙_}
 use lib.IntN.{ℤ}
 use mir.Facts.{toZ-ofZ}
 use denote.Ref.{now}
-use Rattle.definition.specs.Calls.{stringUnpack}
+use Rattle.definition.specs.Calls.{Call, stringUnpack}
+use Rattle.definition.specs.declared.Unpacked.{Unpacked}
 use Rattle.read.specs.Answers.{callOf}
 use Rattle.digribbon.specs.Answers.{unpackedWords}
 use Rattle.digribbon.proofs.Seen.{seen}
@@ -12,8 +13,12 @@ use Rattle.digribbon.proofs.digribbon_unpack.Statement.{statement}
 use Rattle.digribbon.proofs.digribbon_unpack.Tie as tie
 
 -- what `string_unpack` gives, from the start that was passed
-gives : (c : tie.After-string-unpack) → callOf (c .string-unpack .result) (c .string-unpack .last .1 .1 .1 .0) ≡ stringUnpack (now (c .before .before .before .before .before .args .format)) (now (c .before .before .before .before .before .args .«data»)) (c .before .before .before .before .before .args .start) (now (c .before .before .before .before .before .args .list))
-gives c = c .string-unpack .ensures ∙ ap (λ (z : ℤ). stringUnpack (now (c .before .before .before .before .before .args .format)) (now (c .before .before .before .before .before .args .«data»)) z (now (c .before .before .before .before .before .args .list))) (toZ-ofZ (c .before .before .before .before .before .fits .start))
+abbrev Given : tie.After-string-unpack → ℤ → Call Unpacked
+Given c z = let a = c .before .before .before .before .before .args in stringUnpack (now (a .format)) (now (a .«data»)) z (now (a .list))
+
+gives : (c : tie.After-string-unpack)
+    → callOf (c .string-unpack .result) (c .string-unpack .last .1 .1 .1 .0) ≡ Given c (c .before .before .before .before .before .args .start)
+gives c = c .string-unpack .ensures ∙ ap (Given c) (toZ-ofZ (c .before .before .before .before .before .fits .start))
 
 string-unpack-requires : tie.Need-string-unpack-requires
 string-unpack-requires c κs = search needs
@@ -31,13 +36,19 @@ same-length : tie.Need-same-length
 same-length c = search needs
 
 returns : tie.Need-returns
-returns c = seen unpackedWords (now (c .before .before .before .before .before .before .before .before .before .before .args .answer)) (c .before .before .before .before .before .string-unpack .last .1 .1 .1 .0) callOf (c .before .k .given .1) (gives (c .before .before .before .before .before))
+returns c =
+    let p = c .before .before .before .before .before in
+    let a = p .before .before .before .before .before .args in
+    seen unpackedWords (now (a .answer)) (p .string-unpack .last .1 .1 .1 .0) callOf (c .before .k .given .1) (gives p)
 
 same-length-2 : tie.Need-same-length-2
 same-length-2 c = search needs
 
 returns-2 : tie.Need-returns-2
-returns-2 c = seen unpackedWords (now (c .before .before .before .before .before .before .before .before .before .before .before .before .args .answer)) (c .before .before .before .before .before .before .before .string-unpack .last .1 .1 .1 .0) callOf (c .before .before .before .u .given .1) (gives (c .before .before .before .before .before .before .before))
+returns-2 c =
+    let p = c .before .before .before .before .before .before .before in
+    let a = p .before .before .before .before .before .args in
+    seen unpackedWords (now (a .answer)) (p .string-unpack .last .1 .1 .1 .0) callOf (c .before .before .before .u .given .1) (gives p)
 
 pub digribbon-unpack-spec : {M : Type 1} → statement M
 digribbon-unpack-spec =

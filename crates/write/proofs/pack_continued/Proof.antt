@@ -9,7 +9,7 @@ use Rattle.values.specs.Meaning.{isAccepted}
 use Rattle.definition.proofs.Ops.{Sizes, options-sizes}
 use Rattle.format.specs.Packed.{packed, tableAt}
 use Rattle.format.proofs.Table.{packed-options}
-use Rattle.plan.proofs.Plans.{was-true, was-false}
+use borrow.Author.Tests.{not-true, not-false}
 use Rattle.write.proofs.Calls.{unsound, malformed, total-refused, fits, short-call, filled-call}
 use borrow.Author.Needs.{needs}
 use Rattle.write.proofs.pack_continued.Statement.{statement}
@@ -21,22 +21,22 @@ sizes = subst Sizes (sym packed-options) options-sizes
 
 -- what the two tests showed
 sound : (c : tie.After-is-list) → Sound (c .before .before .before .before .before .before .args .state)
-sound c = let i = c .before .before in sym (i .is-sound .ensures) ∙ was-true (i .is-sound .result) (c .before .if1 .left)
+sound c = let i = c .before .before in sym (i .is-sound .ensures) ∙ not-false (i .is-sound .result) (c .before .if1 .left)
 
 listed : (c : tie.After-is-list) → not (c .is-list .result) ≡ false → isAccepted (values (c .before .before .before .before .before .before .args .list .now)) ≡ true
-listed c e = sym (c .is-list .ensures) ∙ was-true (c .is-list .result) e
+listed c e = sym (c .is-list .ensures) ∙ not-false (c .is-list .result) e
 
 is-sound-requires : tie.Need-is-sound-requires
 is-sound-requires c κs = search needs
 
 returns : tie.Need-returns
-returns c = let i = c .before in unsound options refl _ _ _ _ (sym (i .is-sound .ensures) ∙ was-false (i .is-sound .result) (c .if1 .taken))
+returns c = let i = c .before in unsound options refl _ _ _ _ (sym (i .is-sound .ensures) ∙ not-true (i .is-sound .result) (c .if1 .taken))
 
 is-list-requires : tie.Need-is-list-requires
 is-list-requires c κs = search needs
 
 returns-2 : tie.Need-returns-2
-returns-2 c = let l = c .before in malformed options refl _ _ _ _ (sound l) (sym (l .is-list .ensures) ∙ was-false (l .is-list .result) (c .if2 .taken))
+returns-2 c = let l = c .before in malformed options refl _ _ _ _ (sound l) (sym (l .is-list .ensures) ∙ not-true (l .is-list .result) (c .if2 .taken))
 
 pass-requires : tie.Need-pass-requires
 unfolding packed

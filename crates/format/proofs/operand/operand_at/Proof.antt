@@ -43,7 +43,9 @@ returns-3 : tie.Need-returns-3
 returns-3 c =
     let a = c .before .before .before .before .before .before .before .before .args in
     let s = drop (a .at) (now (a .format)) in
-    digit-limit (tableAt (now (a .table))) (a .e) s _ (shown-digit (tableAt (now (a .table))) (a .e) s _ (sym (c .before .before .before .before .before .before .shown .ensures) ∙ c .before .before .before .before .d .given .1)) (c .before .before .if2 .left) (sym (c .before .is-power .ensures) ∙ c .if3 .taken)
+    let t = tableAt (now (a .table)) in
+    let e = shown-digit t (a .e) s _ (sym (c .before .before .before .before .before .before .shown .ensures) ∙ c .before .before .before .before .d .given .1) in
+    digit-limit t (a .e) s _ e (c .before .before .if2 .left) (sym (c .before .is-power .ensures) ∙ c .if3 .taken)
 
 enum-told-2 : tie.Need-enum-told-2
 enum-told-2 c = search needs

@@ -4,9 +4,9 @@ use mathlib.Core.Path.{_≡_, sym, _∙_}
 use mathlib.Core.Bool.{true}
 use native.Mathlib.Omega.{arith}
 use lib.Dec.{leb}
-use borrow.Author.Tests.{leb-true}
+use borrow.Author.Tests.{leb-true, not-true, not-false}
 use Rattle.definition.specs.declared.Field.the-variants as Field
-use Rattle.plan.proofs.Plans.{padding-lt, sound-length, text-early, text-missing, text-refused, text-planned, chars-early, chars-room, was-true, was-false}
+use Rattle.plan.proofs.Plans.{padding-lt, sound-length, text-early, text-missing, text-refused, text-planned, chars-early, chars-room}
 use Rattle.plan.proofs.Texts.{chars-long, chars-bytes}
 use borrow.Author.Needs.{needs}
 use Rattle.plan.proofs.item.chars_after.Statement.{statement}
@@ -14,7 +14,7 @@ use Rattle.plan.proofs.item.chars_after.Tie as tie
 
 -- the first check of 9 was passed
 room : (c : tie.After-text-at) → let a = c .before .before .before .before .args in leb (a .s .length + a .n) (2 ^ 63 - 1) ≡ true
-room c = let f = c .before .before in sym (f .fits2 .ensures) ∙ was-true (f .fits2 .result) (c .before .if1 .left)
+room c = let f = c .before .before in sym (f .fits2 .ensures) ∙ not-false (f .fits2 .result) (c .before .if1 .left)
 
 fits-requires : tie.Need-fits-requires
 fits-requires c κs = sound-length (c .before .args .s) (c .before .pre .0)
@@ -24,7 +24,7 @@ returns c =
     let f = c .before in
     let s = f .before .before in
     let a = s .args in
-    text-early (a .list .now) (a .at) (a .s) (Field.Chars (a .n)) tt (s .pre .1 .1) (chars-early (a .s) (a .n) (sym (f .fits2 .ensures) ∙ was-false (f .fits2 .result) (c .if1 .taken)))
+    text-early (a .list .now) (a .at) (a .s) (Field.Chars (a .n)) tt (s .pre .1 .1) (chars-early (a .s) (a .n) (sym (f .fits2 .ensures) ∙ not-true (f .fits2 .result) (c .if1 .taken)))
 
 text-at-requires : tie.Need-text-at-requires
 text-at-requires c κs = search needs

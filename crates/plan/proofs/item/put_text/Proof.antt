@@ -1,6 +1,7 @@
 -- By whether there is room.
 use mathlib.Core.Path.{sym, _∙_}
-use Rattle.plan.proofs.Plans.{sound-length, text-put, text-long, was-true, was-false}
+use borrow.Author.Tests.{not-true, not-false}
+use Rattle.plan.proofs.Plans.{sound-length, text-put, text-long}
 use borrow.Author.Needs.{needs}
 use Rattle.plan.proofs.item.put_text.Statement.{statement}
 use Rattle.plan.proofs.item.put_text.Tie as tie
@@ -20,12 +21,12 @@ fits-requires c κs = sound-length (c .args .s) (c .pre .0)
 returns : tie.Need-returns
 returns c =
     let a = c .before .before .args in
-    text-long (a .s) (a .p) (a .size) (a .start) (a .n) (a .zeros) (a .next) (sym (c .before .fits2 .ensures) ∙ was-false (c .before .fits2 .result) (c .if1 .taken))
+    text-long (a .s) (a .p) (a .size) (a .start) (a .n) (a .zeros) (a .next) (sym (c .before .fits2 .ensures) ∙ not-true (c .before .fits2 .result) (c .if1 .taken))
 
 returns-2 : tie.Need-returns-2
 returns-2 c =
     let a = c .before .before .args in
-    text-put (a .s) (a .p) (a .size) (a .start) (a .n) (a .zeros) (a .next) (sym (c .before .fits2 .ensures) ∙ was-true (c .before .fits2 .result) (c .if1 .left))
+    text-put (a .s) (a .p) (a .size) (a .start) (a .n) (a .zeros) (a .next) (sym (c .before .fits2 .ensures) ∙ not-false (c .before .fits2 .result) (c .if1 .left))
 
 pub put-text-spec : {M : Type 1} → statement M
 put-text-spec =

@@ -4,7 +4,7 @@ use native.Mathlib.Omega.{arith}
 use lib.ListN.{length, take, drop, replicate, length-replicate}
 use Rattle.definition.specs.Bytes.{laid}
 use Rattle.definition.proofs.Bytes.{length-laid, length-part}
-use Rattle.plan.proofs.Plans.{was-true, was-false}
+use borrow.Author.Tests.{not-true, not-false}
 use Rattle.write.proofs.Pasting.{padded-three}
 use borrow.Author.Needs.{needs}
 use Rattle.write.proofs.emit.emit_text.Statement.{statement}
@@ -12,13 +12,13 @@ use Rattle.write.proofs.emit.emit_text.Tie as tie
 
 -- there is room for all of it
 room : (c : tie.After-put-zeros) → let a = c .before .before .before .before .before .args in a .at + (a .pads + (a .size + a .n + a .zeros)) ≤ length (a .out .now)
-room c = let s = c .before .before .before .before .before in s .pre .0 (was-true (s .args .put) (c .before .before .if1 .left))
+room c = let s = c .before .before .before .before .before in s .pre .0 (not-false (s .args .put) (c .before .before .if1 .left))
 
 returns : tie.Need-returns
-returns c = rw (was-false (c .before .before .before .args .put) (c .if1 .taken))
+returns c = rw (not-true (c .before .before .before .args .put) (c .if1 .taken))
 
 put-zeros-requires : tie.Need-put-zeros-requires
-put-zeros-requires c κs = let s = c .before .before .before .before in omega (arith, s .pre .0 (was-true (s .args .put) (c .before .if1 .left)))
+put-zeros-requires c κs = let s = c .before .before .before .before in omega (arith, s .pre .0 (not-false (s .args .put) (c .before .if1 .left)))
 
 add-put : tie.Need-add-put
 add-put c = omega (arith, room (c .before .before .before))
@@ -57,7 +57,7 @@ returns-2 c =
     let a = s .args in
     let n = laid (a .big) (a .size) (a .n) 0 in
     let x = take (a .n) (drop (a .start) (a .list .now)) in
-    rw (was-true (a .put) (z .before .before .if1 .left))
+    rw (not-false (a .put) (z .before .before .if1 .left))
     (padded-three (a .out .now) _ _ _ _ n x (replicate (a .zeros) 0) (a .at) (a .pads) (a .size) (a .n) (a .zeros)
     (length-laid (a .big) (a .size) (a .n) 0) (length-part (a .n) (a .start) (a .list .now) (s .pre .1)) (length-replicate (a .zeros) 0) (room z)
     (z .put-zeros .ensures) (c .before .before .before .before .before .before .before .before .before .before .put .ensures) (c .before .before .before .before .before .before .put-copy .ensures) (c .before .before .put-zeros2 .ensures))
