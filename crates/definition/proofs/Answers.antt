@@ -39,11 +39,6 @@ pub passed : {B : Type 0} (t : Bool) (k : ℕ) (c : Checked B) {b : B} → (requ
 passed true k c e = (refl, e)
 passed false k c e = absurd (never e)
 
--- the same where an answer is checked, and nothing is made of it
-pub passed-by : {A B : Type 0} (d : Checked A) (c : Checked B) {b : B} → (d >> c) ≡ accepted b → ((a : A) × (d ≡ accepted a)) × (c ≡ accepted b)
-passed-by (refused k) c e = absurd (never e)
-passed-by (accepted a) c e = ((a, refl), e)
-
 pub found : {A : Type 0} (m : Option A) {a : A} → orElse m (refused 12) ≡ accepted a → m ≡ some a
 found none e = absurd (never e)
 found (some a) e = ap some (same e)

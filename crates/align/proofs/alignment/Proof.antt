@@ -5,12 +5,6 @@ use borrow.Author.Needs.{needs}
 use Rattle.align.proofs.alignment.Statement.{statement}
 use Rattle.align.proofs.alignment.Tie as tie
 
-lesser-requires : tie.Need-lesser-requires
-lesser-requires c κs = search needs
-
-is-power-requires : tie.Need-is-power-requires
-is-power-requires c κs = search needs
-
 returns : tie.Need-returns
 returns c = sym (alignment-power _ _ _ (c .before .before .lesser .ensures) (sym (c .before .is-power .ensures) ∙ c .if1 .taken))
 
@@ -18,4 +12,4 @@ returns-2 : tie.Need-returns-2
 returns-2 c = sym (alignment-other _ _ _ (c .before .before .lesser .ensures) (sym (c .before .is-power .ensures) ∙ c .if1 .left))
 
 pub alignment-spec : {M : Type 1} → statement M
-alignment-spec = tie.close (tie.spec lesser-requires is-power-requires returns returns-2)
+alignment-spec = tie.close (tie.spec (λ c κs. search needs) (λ c κs. search needs) returns returns-2)

@@ -4,11 +4,8 @@ use Rattle.align.proofs.States.{leb-less}
 use Rattle.align.proofs.fits.Statement.{statement}
 use Rattle.align.proofs.fits.Tie as tie
 
-sub-result : tie.Need-sub-result
-sub-result c = search needs
-
 returns : tie.Need-returns
 returns c = leb-less (c .before .args .s .length) (c .before .args .n) _ (c .before .pre)
 
 pub fits-spec : {M : Type 1} → statement M
-fits-spec = tie.close (tie.spec sub-result returns)
+fits-spec = tie.close (tie.spec (λ c. search needs) returns)

@@ -13,11 +13,8 @@ returns c = sym (longer-past _ _ (omega arith))
 returns-2 : tie.Need-returns-2
 returns-2 c = sym (longer-past _ _ (omega arith))
 
-further-requires : tie.Need-further-requires
-further-requires c κs = search needs
-
 returns-3 : tie.Need-returns-3
 returns-3 c = ap accepted (c .further .ensures) ∙ sym (longer-fits (c .before .before .before .before .args .s) _ (omega arith))
 
 pub longer-spec : {M : Type 1} → statement M
-longer-spec = tie.close (tie.spec returns returns-2 further-requires returns-3)
+longer-spec = tie.close (tie.spec returns returns-2 (λ c κs. search needs) returns-3)

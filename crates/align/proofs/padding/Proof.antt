@@ -8,17 +8,8 @@ use borrow.Author.Needs.{needs}
 use Rattle.align.proofs.padding.Statement.{statement}
 use Rattle.align.proofs.padding.Tie as tie
 
-lesser-requires : tie.Need-lesser-requires
-lesser-requires c κs = search needs
-
 returns : tie.Need-returns
 returns c = sym (padding-one _ _ _ (c .before .lesser .ensures) (c .if1 .taken))
-
-is-power-requires : tie.Need-is-power-requires
-is-power-requires c κs = search needs
-
-wrapping-sub-u64-requires : tie.Need-wrapping-sub-u64-requires
-wrapping-sub-u64-requires c κs = search needs
 
 sub-t7 : tie.Need-sub-t7
 sub-t7 c = omega (arith, power-least (c .before .before .before .before .lesser .result) (sym (c .before .before .is-power .ensures) ∙ c .before .if2 .taken))
@@ -37,10 +28,10 @@ pub padding-spec : {M : Type 1} → statement M
 padding-spec =
     tie.close
     (tie.spec
-    lesser-requires
+    (λ c κs. search needs)
     returns
-    is-power-requires
-    wrapping-sub-u64-requires
+    (λ c κs. search needs)
+    (λ c κs. search needs)
     sub-t7
     returns-2
     returns-3)

@@ -16,36 +16,12 @@ as-number : (t : Bool) → boolByte t ≡ cond t 1 0
 as-number true = refl
 as-number false = refl
 
-state-requires : tie.Need-state-requires
-state-requires c κs = search needs
-
-pack-continued-requires : tie.Need-pack-continued-requires
-pack-continued-requires c κs = search needs
-
-enum-known-k : tie.Need-enum-known-k
-enum-known-k c = search needs
-
-cast-result : tie.Need-cast-result
-cast-result c = search needs
-
-enum-known-c : tie.Need-enum-known-c
-enum-known-c c = search needs
-
-cast-t17 : tie.Need-cast-t17
-cast-t17 c = search needs
-
-same-length : tie.Need-same-length
-same-length c = search needs
-
 returns : tie.Need-returns
 returns c =
     let p = c .before .before .before .before .before in
     let a = p .before .before .before .before .before .before .args in
     let same = ap (λ (s : State). packContinued s (a .format .now) (a .list .now) (a .«record» .now)) (p .before .before .state .ensures) in
     seen continuedWords (a .answer .now) (p .pack-continued .last .1 .1 .1 .0) continuedCallOf (c .before .k .given .1) (p .pack-continued .ensures ∙ same)
-
-same-length-2 : tie.Need-same-length-2
-same-length-2 c = search needs
 
 returns-2 : tie.Need-returns-2
 returns-2 c =
@@ -59,13 +35,13 @@ pub digribbon-pack-continued-spec : {M : Type 1} → statement M
 digribbon-pack-continued-spec =
     tie.close
     (tie.spec
-    state-requires
-    pack-continued-requires
-    enum-known-k
-    cast-result
-    enum-known-c
-    cast-t17
-    same-length
+    (λ c κs. search needs)
+    (λ c κs. search needs)
+    (λ c. search needs)
+    (λ c. search needs)
+    (λ c. search needs)
+    (λ c. search needs)
+    (λ c. search needs)
     returns
-    same-length-2
+    (λ c. search needs)
     returns-2)

@@ -6,14 +6,8 @@ use borrow.Author.Needs.{needs}
 use Rattle.digribbon.proofs.digribbon_packsize.Statement.{statement}
 use Rattle.digribbon.proofs.digribbon_packsize.Tie as tie
 
-string-packsize-requires : tie.Need-string-packsize-requires
-string-packsize-requires c κs = search needs
-
-tell-size-requires : tie.Need-tell-size-requires
-tell-size-requires c κs = search needs
-
 returns : tie.Need-returns
 returns c = c .tell-size .ensures ∙ ap (told word (now (c .before .before .before .before .args .answer))) (c .before .before .string-packsize .ensures)
 
 pub digribbon-packsize-spec : {M : Type 1} → statement M
-digribbon-packsize-spec = tie.close (tie.spec string-packsize-requires tell-size-requires returns)
+digribbon-packsize-spec = tie.close (tie.spec (λ c κs. search needs) (λ c κs. search needs) returns)

@@ -8,15 +8,6 @@ use borrow.Author.Needs.{needs}
 use Rattle.digribbon.proofs.tell_size.Statement.{statement}
 use Rattle.digribbon.proofs.tell_size.Tie as tie
 
-enum-known-m : tie.Need-enum-known-m
-enum-known-m c = search needs
-
-cast-result : tie.Need-cast-result
-cast-result c = search needs
-
-enum-known-m-2 : tie.Need-enum-known-m-2
-enum-known-m-2 c = search needs
-
 returns : tie.Need-returns
 returns c = ap (λ (m : Measured). told word (now (c .before .before .before .args .answer)) (measuredOf m)) (sym (c .before .m .given .1))
 
@@ -24,4 +15,4 @@ returns-2 : tie.Need-returns-2
 returns-2 c = ap (λ (m : Measured). told word (now (c .before .before .before .before .args .answer)) (measuredOf m)) (sym (c .before .before .m2 .given .1))
 
 pub tell-size-spec : {M : Type 1} → statement M
-tell-size-spec = tie.close (tie.spec enum-known-m cast-result enum-known-m-2 returns returns-2)
+tell-size-spec = tie.close (tie.spec (λ c. search needs) (λ c. search needs) (λ c. search needs) returns returns-2)

@@ -8,12 +8,6 @@ use borrow.Author.Needs.{needs}
 use Rattle.fetch.proofs.after.Statement.{statement}
 use Rattle.fetch.proofs.after.Tie as tie
 
-enum-known-x : tie.Need-enum-known-x
-enum-known-x c = search needs
-
-enum-known-x-2 : tie.Need-enum-known-x-2
-enum-known-x-2 c = search needs
-
 further-requires : tie.Need-further-requires
 further-requires c κs = let s = c .before .before .before in subst (Countable (s .args .at)) (c .before .x2 .given .1) (s .pre)
 
@@ -27,4 +21,4 @@ returns-2 c =
     ∙ ap (afterOf (x .before .before .args .at)) (sym (x .x2 .given .1))
 
 pub after-spec : {M : Type 1} → statement M
-after-spec = tie.close (tie.spec enum-known-x enum-known-x-2 further-requires returns returns-2)
+after-spec = tie.close (tie.spec (λ c. search needs) (λ c. search needs) further-requires returns returns-2)

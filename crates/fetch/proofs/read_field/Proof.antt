@@ -6,9 +6,6 @@ use borrow.Author.Needs.{needs}
 use Rattle.fetch.proofs.read_field.Statement.{statement}
 use Rattle.fetch.proofs.read_field.Tie as tie
 
-enum-known-f : tie.Need-enum-known-f
-enum-known-f c = search needs
-
 read-number-requires : tie.Need-read-number-requires
 read-number-requires c κs = let s = c .before .before .before .before in (s .pre .0, valid-number (c .before .f .given .1) (s .pre .1))
 
@@ -23,4 +20,4 @@ returns-2 c = c .read-text .ensures
 
 pub read-field-spec : {M : Type 1} → statement M
 read-field-spec =
-    tie.close (tie.spec enum-known-f read-number-requires read-text-requires returns returns-2)
+    tie.close (tie.spec (λ c. search needs) read-number-requires read-text-requires returns returns-2)

@@ -11,18 +11,6 @@ aligned : (c : tie.After-known-told2) → let s = c .before .before .before .bef
     Skips (s .args .«data» .now) (s .args .s) (s .args .size) 0 (To (c .before .t .given .0 .0))
 aligned c = let p = c .before .before .before in pad-told (p .before .natural .ensures) (c .before .t .given .1) (p .read-pad .ensures)
 
-natural-requires : tie.Need-natural-requires
-natural-requires c κs = search needs
-
-read-pad-requires : tie.Need-read-pad-requires
-read-pad-requires c κs = search needs
-
-enum-known-k : tie.Need-enum-known-k
-enum-known-k c = search needs
-
-enum-known-t : tie.Need-enum-known-t
-enum-known-t c = search needs
-
 number-requires : tie.Need-number-requires
 number-requires c κs = (aligned c .inside, c .before .before .before .before .before .before .pre .1)
 
@@ -39,10 +27,10 @@ pub read-number-spec : {M : Type 1} → statement M
 read-number-spec =
     tie.close
     (tie.spec
-    natural-requires
-    read-pad-requires
-    enum-known-k
-    enum-known-t
+    (λ c κs. search needs)
+    (λ c κs. search needs)
+    (λ c. search needs)
+    (λ c. search needs)
     number-requires
     after-requires
     returns

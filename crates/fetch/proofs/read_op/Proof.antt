@@ -5,35 +5,8 @@ use borrow.Author.Needs.{needs}
 use Rattle.fetch.proofs.read_op.Statement.{statement}
 use Rattle.fetch.proofs.read_op.Tie as tie
 
-enum-known-op : tie.Need-enum-known-op
-enum-known-op c = search needs
-
 read-field-requires : tie.Need-read-field-requires
 read-field-requires c κs = let s = c .before .before .before .before in (s .pre .0, valid-as (c .before .op .given .1) (s .pre .1))
-
-enum-told : tie.Need-enum-told
-enum-told c = search needs
-
-enum-known-op-2 : tie.Need-enum-known-op-2
-enum-known-op-2 c = search needs
-
-set-requires : tie.Need-set-requires
-set-requires c κs = search needs
-
-enum-known-op-3 : tie.Need-enum-known-op-3
-enum-known-op-3 c = search needs
-
-read-pad-requires : tie.Need-read-pad-requires
-read-pad-requires c κs = search needs
-
-enum-known-number : tie.Need-enum-known-number
-enum-known-number c = search needs
-
-enum-known-t : tie.Need-enum-known-t
-enum-known-t c = search needs
-
-at-offset-requires : tie.Need-at-offset-requires
-at-offset-requires c κs = search needs
 
 returns : tie.Need-returns
 returns c = of-op (c .before .before .op .given .1) (c .read-field .ensures)
@@ -58,16 +31,16 @@ pub read-op-spec : {M : Type 1} → statement M
 read-op-spec =
     tie.close
     (tie.spec
-    enum-known-op
+    (λ c. search needs)
     read-field-requires
-    enum-told
-    enum-known-op-2
-    set-requires
-    enum-known-op-3
-    read-pad-requires
-    enum-known-number
-    enum-known-t
-    at-offset-requires
+    (λ c. search needs)
+    (λ c. search needs)
+    (λ c κs. search needs)
+    (λ c. search needs)
+    (λ c κs. search needs)
+    (λ c. search needs)
+    (λ c. search needs)
+    (λ c κs. search needs)
     returns
     returns-2
     returns-3

@@ -17,18 +17,6 @@ padded c = sym (ap amountOf (c .before .p .given .1)) ∙ c .before .before .bef
 here : (c : tie.After-offset-in) → c .offset-in .result .0 ≡ c .before .before .before .before .before .before .args .s .length
 here c = ap (λ (o : Offset). o .0) (c .offset-in .ensures)
 
-padding-requires : tie.Need-padding-requires
-padding-requires c κs = search needs
-
-enum-known-number : tie.Need-enum-known-number
-enum-known-number c = search needs
-
-enum-known-p : tie.Need-enum-known-p
-enum-known-p c = search needs
-
-offset-in-requires : tie.Need-offset-in-requires
-offset-in-requires c κs = search needs
-
 left-requires : tie.Need-left-requires
 left-requires c κs = let s = c .before .before .before .before .before .before in omega (arith, here c, s .pre)
 
@@ -37,12 +25,6 @@ returns c = let o = c .before .before in pad-short _ _ _ _ (padded (o .before)) 
 
 returns-2 : tie.Need-returns-2
 returns-2 c = let o = c .before .before .before in pad-short _ _ _ _ (padded (o .before)) (omega (arith, here o))
-
-add-further : tie.Need-add-further
-add-further c = search needs
-
-further-requires : tie.Need-further-requires
-further-requires c κs = search needs
 
 returns-3 : tie.Need-returns-3
 returns-3 c = pad-refused _ _ _ _ (sym (ap amountOf (c .before .number .given .1)) ∙ c .before .before .before .padding .ensures)
@@ -56,14 +38,14 @@ pub read-pad-spec : {M : Type 1} → statement M
 read-pad-spec =
     tie.close
     (tie.spec
-    padding-requires
-    enum-known-number
-    enum-known-p
-    offset-in-requires
+    (λ c κs. search needs)
+    (λ c. search needs)
+    (λ c. search needs)
+    (λ c κs. search needs)
     left-requires
     returns
     returns-2
-    add-further
-    further-requires
+    (λ c. search needs)
+    (λ c κs. search needs)
     returns-3
     returns-4)

@@ -13,21 +13,6 @@ aligned : (c : tie.After-known-told2) → let s = c .before .before .before .bef
     Skips (s .args .«data» .now) (s .args .s) (natural (s .args .f)) 0 (To (c .before .t .given .0 .0))
 aligned c = let p = c .before .before .before in pad-told (p .before .natural .ensures) (c .before .t .given .1) (p .read-pad .ensures)
 
-natural-requires : tie.Need-natural-requires
-natural-requires c κs = search needs
-
-read-pad-requires : tie.Need-read-pad-requires
-read-pad-requires c κs = search needs
-
-enum-known-k : tie.Need-enum-known-k
-enum-known-k c = search needs
-
-enum-known-t : tie.Need-enum-known-t
-enum-known-t c = search needs
-
-enum-known-f : tie.Need-enum-known-f
-enum-known-f c = search needs
-
 text-requires : tie.Need-text-requires
 text-requires c κs = aligned (c .before .before .before) .inside
 
@@ -35,9 +20,6 @@ after-requires : tie.Need-after-requires
 after-requires c κs =
     let s = c .before .before .before .before .before .before .before .before .before .before in
     countable (s .good .0 .0) (c .text .ensures (s .args .s .big))
-
-enum-known-f-2 : tie.Need-enum-known-f-2
-enum-known-f-2 c = search needs
 
 counted-requires : tie.Need-counted-requires
 counted-requires c κs = aligned (c .before .before .before) .inside
@@ -80,14 +62,14 @@ pub read-text-spec : {M : Type 1} → statement M
 read-text-spec =
     tie.close
     (tie.spec
-    natural-requires
-    read-pad-requires
-    enum-known-k
-    enum-known-t
-    enum-known-f
+    (λ c κs. search needs)
+    (λ c κs. search needs)
+    (λ c. search needs)
+    (λ c. search needs)
+    (λ c. search needs)
     text-requires
     after-requires
-    enum-known-f-2
+    (λ c. search needs)
     counted-requires
     after-requires-2
     zero-ended-requires

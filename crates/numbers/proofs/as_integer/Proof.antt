@@ -8,26 +8,8 @@ use borrow.Author.Needs.{needs}
 use Rattle.numbers.proofs.as_integer.Statement.{statement}
 use Rattle.numbers.proofs.as_integer.Tie as tie
 
-enum-known-v : tie.Need-enum-known-v
-enum-known-v c = search needs
-
-enum-known-v-2 : tie.Need-enum-known-v-2
-enum-known-v-2 c = search needs
-
 float-to-bits-integer-of : tie.Need-float-to-bits-integer-of
 float-to-bits-integer-of c = rw (c .before .v2 .given .1) at (c .before .before .before .pre)
-
-integer-of-requires : tie.Need-integer-of-requires
-integer-of-requires c κs = search needs
-
-enum-told : tie.Need-enum-told
-enum-told c = search needs
-
-enum-told-2 : tie.Need-enum-told-2
-enum-told-2 c = search needs
-
-enum-told-3 : tie.Need-enum-told-3
-enum-told-3 c = search needs
 
 returns : tie.Need-returns
 returns c l = rw (c .before .v .given .1) (ap some (search needs))
@@ -50,13 +32,13 @@ pub as-integer-spec : {M : Type 1} → statement M
 as-integer-spec =
     tie.close
     (tie.spec
-    enum-known-v
-    enum-known-v-2
+    (λ c. search needs)
+    (λ c. search needs)
     float-to-bits-integer-of
-    integer-of-requires
-    enum-told
-    enum-told-2
-    enum-told-3
+    (λ c κs. search needs)
+    (λ c. search needs)
+    (λ c. search needs)
+    (λ c. search needs)
     returns
     returns-2
     returns-3

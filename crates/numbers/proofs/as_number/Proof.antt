@@ -5,26 +5,8 @@ use borrow.Author.Needs.{needs}
 use Rattle.numbers.proofs.as_number.Statement.{statement}
 use Rattle.numbers.proofs.as_number.Tie as tie
 
-enum-known-v : tie.Need-enum-known-v
-enum-known-v c = search needs
-
-bits-of-requires : tie.Need-bits-of-requires
-bits-of-requires c κs = search needs
-
-enum-known-v-2 : tie.Need-enum-known-v-2
-enum-known-v-2 c = search needs
-
 float-to-bits-t7 : tie.Need-float-to-bits-t7
 float-to-bits-t7 c = rw (c .before .v2 .given .1) at (c .before .before .before .pre)
-
-enum-known-v-3 : tie.Need-enum-known-v-3
-enum-known-v-3 c = search needs
-
-enum-told : tie.Need-enum-told
-enum-told c = search needs
-
-enum-told-2 : tie.Need-enum-told-2
-enum-told-2 c = search needs
 
 returns : tie.Need-returns
 returns c l = rw (c .before .before .v .given .1) (c .bits-of .ensures ∙ ap (λ z. asNumber (integer z)) (search needs))
@@ -45,13 +27,13 @@ pub as-number-spec : {M : Type 1} → statement M
 as-number-spec =
     tie.close
     (tie.spec
-    enum-known-v
-    bits-of-requires
-    enum-known-v-2
+    (λ c. search needs)
+    (λ c κs. search needs)
+    (λ c. search needs)
     float-to-bits-t7
-    enum-known-v-3
-    enum-told
-    enum-told-2
+    (λ c. search needs)
+    (λ c. search needs)
+    (λ c. search needs)
     returns
     returns-2
     returns-3

@@ -9,24 +9,6 @@ use borrow.Author.Needs.{needs}
 use Rattle.numbers.proofs.as_wrapped.Statement.{statement}
 use Rattle.numbers.proofs.as_wrapped.Tie as tie
 
-enum-told : tie.Need-enum-told
-enum-told c = search needs
-
-enum-known-v : tie.Need-enum-known-v
-enum-known-v c = search needs
-
-wrapped-requires : tie.Need-wrapped-requires
-wrapped-requires c κs = search needs
-
-enum-told-2 : tie.Need-enum-told-2
-enum-told-2 c = search needs
-
-enum-told-3 : tie.Need-enum-told-3
-enum-told-3 c = search needs
-
-enum-told-4 : tie.Need-enum-told-4
-enum-told-4 c = search needs
-
 returns : tie.Need-returns
 returns c l = rw (c .enum-told .given .1)
 
@@ -51,12 +33,12 @@ pub as-wrapped-spec : {M : Type 1} → statement M
 as-wrapped-spec =
     tie.close
     (tie.spec
-    enum-told
-    enum-known-v
-    wrapped-requires
-    enum-told-2
-    enum-told-3
-    enum-told-4
+    (λ c. search needs)
+    (λ c. search needs)
+    (λ c κs. search needs)
+    (λ c. search needs)
+    (λ c. search needs)
+    (λ c. search needs)
     returns
     returns-2
     returns-3

@@ -17,14 +17,8 @@ use Rattle.numbers.proofs.bits_of.Tie as tie
 got : (c : tie.After-extent) → c .extent .result ≡ extent (c .before .before .args .n)
 got c = c .extent .ensures ∙ ap extent (toZ-ofZ (c .before .before .fits .n))
 
-extent-requires : tie.Need-extent-requires
-extent-requires c κs = search needs
-
 add-rounded : tie.Need-add-rounded
 add-rounded c = let s = c .before .before in omega (arith, got c, extent-fits (s .args .n) (s .fits .n))
-
-rounded-requires : tie.Need-rounded-requires
-rounded-requires c κs = search needs
 
 sum : (c : tie.After-rounded) → 2 ^ 63 + c .rounded .result ≡ bits (c .before .before .before .args .n)
 sum c =
@@ -36,12 +30,6 @@ sum c =
 
 add-result : tie.Need-add-result
 add-result c = record { fits = rw (sum c) (bits-lt (c .before .before .before .args .n)) }
-
-extent-requires-2 : tie.Need-extent-requires-2
-extent-requires-2 c κs = search needs
-
-rounded-requires-2 : tie.Need-rounded-requires-2
-rounded-requires-2 c κs = search needs
 
 returns : tie.Need-returns
 returns c = ap some (sum c)
@@ -56,4 +44,4 @@ returns-2 c =
 pub bits-of-spec : {M : Type 1} → statement M
 bits-of-spec =
     tie.close
-    (tie.spec extent-requires add-rounded rounded-requires add-result extent-requires-2 rounded-requires-2 returns returns-2)
+    (tie.spec (λ c κs. search needs) add-rounded (λ c κs. search needs) add-result (λ c κs. search needs) (λ c κs. search needs) returns returns-2)

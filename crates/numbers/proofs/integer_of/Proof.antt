@@ -15,18 +15,6 @@ returns-2 c = at-fraction (c .before .before .args .bits) (c .if2 .left) (c .bef
 returns-3 : tie.Need-returns-3
 returns-3 c = at-large (c .before .before .args .bits) (c .if3 .taken)
 
-mul-significand : tie.Need-mul-significand
-mul-significand c = search needs
-
-add-significand : tie.Need-add-significand
-add-significand c = search needs
-
-shr-whole : tie.Need-shr-whole
-shr-whole c = search needs
-
-shl-if4 : tie.Need-shl-if4
-shl-if4 c = search needs
-
 returns-4 : tie.Need-returns-4
 returns-4 c =
     let s = c .before .before .before in
@@ -44,4 +32,4 @@ returns-5 c =
 pub integer-of-spec : {M : Type 1} → statement M
 integer-of-spec =
     tie.close
-    (tie.spec returns returns-2 returns-3 mul-significand add-significand shr-whole shl-if4 returns-4 with-sign-requires returns-5)
+    (tie.spec returns returns-2 returns-3 (λ c. search needs) (λ c. search needs) (λ c. search needs) (λ c. search needs) returns-4 with-sign-requires returns-5)

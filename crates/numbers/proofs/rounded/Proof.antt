@@ -27,20 +27,11 @@ up c = topped (c .before .args .n) (positive c) (c .before .fits .n .fits)
 cast-zeros : tie.Need-cast-zeros
 cast-zeros c = let h = up c .zeros-lt in omega arith
 
-sub-result : tie.Need-sub-result
-sub-result c = search needs
-
 sub-result-2 : tie.Need-sub-result-2
 sub-result-2 c = let h = up c .zeros-lt in omega arith
 
-mul-result : tie.Need-mul-result
-mul-result c = search needs
-
 shl-nearest : tie.Need-shl-nearest
 shl-nearest c = up c .zeros-lt
-
-nearest-requires : tie.Need-nearest-requires
-nearest-requires c κs = search needs
 
 sum : (c : tie.After-nearest) → (1085 - zeros (c .before)) * 2 ^ 52 + c .nearest .result ≡ bits (pos (c .before .before .args .n))
 sum c =
@@ -59,4 +50,4 @@ returns-2 = sum
 pub rounded-spec : {M : Type 1} → statement M
 rounded-spec =
     tie.close
-    (tie.spec returns cast-zeros sub-result sub-result-2 mul-result shl-nearest nearest-requires add-result returns-2)
+    (tie.spec returns cast-zeros (λ c. search needs) sub-result-2 (λ c. search needs) shl-nearest (λ c κs. search needs) add-result returns-2)

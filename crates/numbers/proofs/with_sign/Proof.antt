@@ -25,12 +25,6 @@ negated : (n : ℕ) → 0 < n → negsuc (n - 1) ≡ withSign true n
 negated zero h = absurd (omega arith)
 negated (suc n) h = let e : suc n - 1 ≡ n = omega arith in ap negsuc e
 
-sub-t5 : tie.Need-sub-t5
-sub-t5 c = search needs
-
-cast-t6 : tie.Need-cast-t6
-cast-t6 c = search needs
-
 sub-t7 : tie.Need-sub-t7
 sub-t7 c =
     let n = c .before .before .args .whole - 1 in
@@ -50,9 +44,6 @@ returns-2 c =
     let s = c .before .before in
     rw (c .before .if1 .taken) (outside (negsuc (s .args .whole - 1)) (omega arith) ∙ ap (integerWhere true) (negated (s .args .whole) (s .pre)))
 
-cast-t8 : tie.Need-cast-t8
-cast-t8 c = search needs
-
 returns-3 : tie.Need-returns-3
 returns-3 c = rw (c .before .if1 .left, toZ-pos w64 (c .if3 .taken)) (inside (pos (c .before .before .args .whole)) (c .if3 .taken))
 
@@ -61,4 +52,4 @@ returns-4 c = rw (c .before .if1 .left) (outside (pos (c .before .before .args .
 
 pub with-sign-spec : {M : Type 1} → statement M
 with-sign-spec =
-    tie.close (tie.spec sub-t5 cast-t6 sub-t7 returns returns-2 cast-t8 returns-3 returns-4)
+    tie.close (tie.spec (λ c. search needs) (λ c. search needs) sub-t7 returns returns-2 (λ c. search needs) returns-3 returns-4)

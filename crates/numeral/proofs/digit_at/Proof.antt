@@ -7,9 +7,6 @@ use Rattle.numeral.proofs.Digits.{first-at, first-past}
 use Rattle.numeral.proofs.digit_at.Statement.{statement}
 use Rattle.numeral.proofs.digit_at.Tie as tie
 
-shared-slice-read-b : tie.Need-shared-slice-read-b
-shared-slice-read-b c = search needs
-
 returns : tie.Need-returns
 returns c =
     let a = c .before .before .before .args in
@@ -24,4 +21,4 @@ returns-3 : tie.Need-returns-3
 returns-3 c = sym (first-past (now (c .before .args .text)) (c .before .args .at) (c .if1 .left))
 
 pub digit-at-spec : {M : Type 1} → statement M
-digit-at-spec = tie.close (tie.spec shared-slice-read-b returns returns-2 returns-3)
+digit-at-spec = tie.close (tie.spec (λ c. search needs) returns returns-2 returns-3)

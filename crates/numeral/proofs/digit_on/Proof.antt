@@ -16,9 +16,6 @@ use Rattle.numeral.proofs.digit_on.Tie as tie
 returns : tie.Need-returns
 returns c = let a = c .before .before .args in sym (on-end (a .n) (drop (a .at) (now (a .text))) (a .left) (c .if1 .taken))
 
-digit-at-requires : tie.Need-digit-at-requires
-digit-at-requires c κs = search needs
-
 returns-2 : tie.Need-returns-2
 returns-2 c =
     let a = c .before .before .before .before .args in
@@ -37,20 +34,11 @@ returns-3 c =
     let some : 0 < a .left = omega arith in
     sym (on-large (a .n) (now (a .text)) (a .at) (a .left) some (digit (c .before .before)) (omega arith))
 
-mul-tens : tie.Need-mul-tens
-mul-tens c = search needs
-
-sub-if4 : tie.Need-sub-if4
-sub-if4 c = search needs
-
 returns-4 : tie.Need-returns-4
 returns-4 c =
     let a = c .before .before .before .before .before .before .before .args in
     let some : 0 < a .left = omega arith in
     sym (on-large (a .n) (now (a .text)) (a .at) (a .left) some (digit (c .before .before .before)) (omega arith))
-
-add-t9 : tie.Need-add-t9
-add-t9 c = search needs
 
 returns-5 : tie.Need-returns-5
 returns-5 c =
@@ -64,12 +52,12 @@ digit-on-spec =
     tie.close
     (tie.spec
     returns
-    digit-at-requires
+    (λ c κs. search needs)
     returns-2
     digit-value-requires
     returns-3
-    mul-tens
-    sub-if4
+    (λ c. search needs)
+    (λ c. search needs)
     returns-4
-    add-t9
+    (λ c. search needs)
     returns-5)

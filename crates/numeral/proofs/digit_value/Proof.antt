@@ -9,14 +9,8 @@ use Rattle.numeral.proofs.digit_value.Tie as tie
 shared-slice-read-wide : tie.Need-shared-slice-read-wide
 shared-slice-read-wide c = let a = c .before .before .args in first-inside (now (a .text)) (a .at) (c .before .before .pre)
 
-wide-requires : tie.Need-wide-requires
-wide-requires c κs = search needs
-
 sub-result : tie.Need-sub-result
 sub-result c = let a = c .before .before .before .args in omega (arith, first-48 (now (a .text)) (a .at) (c .before .before .before .pre))
 
-returns : tie.Need-returns
-returns c = search needs
-
 pub digit-value-spec : {M : Type 1} → statement M
-digit-value-spec = tie.close (tie.spec shared-slice-read-wide wide-requires sub-result returns)
+digit-value-spec = tie.close (tie.spec shared-slice-read-wide (λ c κs. search needs) sub-result (λ c. search needs))

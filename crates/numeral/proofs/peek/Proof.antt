@@ -11,9 +11,6 @@ use Rattle.numeral.specs.Numerals.{digitFirst}
 use Rattle.numeral.proofs.peek.Statement.{statement}
 use Rattle.numeral.proofs.peek.Tie as tie
 
-digit-at-requires : tie.Need-digit-at-requires
-digit-at-requires c κs = search needs
-
 returns : tie.Need-returns
 returns c =
     let a = c .before .before .before .args in
@@ -28,16 +25,10 @@ add-digit-at c =
     let a = c .before .before .before .args in
     omega (arith, first-inside (now (a .t1)) (a .at) (digit c))
 
-digit-at-requires-2 : tie.Need-digit-at-requires-2
-digit-at-requires-2 c κs = search needs
-
 returns-2 : tie.Need-returns-2
 returns-2 c =
     let a = c .before .before .before .before .before .args in
     short-long (now (a .t1)) (a .at) (digit (c .before .before)) (sym (c .before .digit-at2 .ensures) ∙ c .if2 .taken)
-
-read-digits-requires : tie.Need-read-digits-requires
-read-digits-requires c κs = search needs
 
 returns-3 : tie.Need-returns-3
 returns-3 c =
@@ -59,11 +50,11 @@ pub peek-spec : {M : Type 1} → statement M
 peek-spec =
     tie.close
     (tie.spec
-    digit-at-requires
+    (λ c κs. search needs)
     returns
     add-digit-at
-    digit-at-requires-2
+    (λ c κs. search needs)
     returns-2
-    read-digits-requires
+    (λ c κs. search needs)
     returns-3
     returns-4)

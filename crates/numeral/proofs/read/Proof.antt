@@ -9,20 +9,11 @@ use Rattle.numeral.proofs.Digits.{digits-length, scanOf, scan-none, sca
 use Rattle.numeral.proofs.read.Statement.{statement}
 use Rattle.numeral.proofs.read.Tie as tie
 
-digit-at-requires : tie.Need-digit-at-requires
-digit-at-requires c κs = search needs
-
 returns : tie.Need-returns
 returns c = sym (scan-none (now (c .before .before .before .args .t1)) (sym (c .before .digit-at .ensures) ∙ not-true _ (c .if1 .taken)))
 
-skip-zeros-requires : tie.Need-skip-zeros-requires
-skip-zeros-requires c κs = search needs
-
 sub-left : tie.Need-sub-left
 sub-left c = omega (arith, c .skip-zeros .ensures .1, digits-length (now (c .before .before .before .before .args .t1)))
-
-read-digits-requires : tie.Need-read-digits-requires
-read-digits-requires c κs = search needs
 
 -- what is read past the zeros is the numeral
 numeral : (c : tie.After-read-digits)
@@ -45,10 +36,10 @@ pub read-spec : {M : Type 1} → statement M
 read-spec =
     tie.close
     (tie.spec
-    digit-at-requires
+    (λ c κs. search needs)
     returns
-    skip-zeros-requires
+    (λ c κs. search needs)
     sub-left
-    read-digits-requires
+    (λ c κs. search needs)
     returns-2
     returns-3)

@@ -19,12 +19,6 @@ Inv-loop text at i₀ i = i + length (digits (drop i text)) ≡ at + length (dig
 abbrev μ-loop : tie.MeasureT-loop
 μ-loop text at i₀ i = length text - i
 
-loop-holds : tie.Need-loop-holds Inv-loop μ-loop
-loop-holds c = refl
-
-digit-at-requires : tie.Need-digit-at-requires Inv-loop μ-loop
-digit-at-requires c κs = search needs
-
 -- a turn has a digit
 digit : (c : tie.Then1 Inv-loop μ-loop) → digitFirst (drop (c .before .before .loop .i) (c .before .before .before .before .args .text .now)) ≡ true
 digit c = sym (c .before .digit-at .ensures) ∙ c .if1 .taken
@@ -48,4 +42,4 @@ returns c =
 pub skip-digits-spec : {M : Type 1} → statement M
 skip-digits-spec =
     tie.close
-    (tie.spec Inv-loop μ-loop loop-holds digit-at-requires add-i loop-less loop-again returns)
+    (tie.spec Inv-loop μ-loop (λ c. refl) (λ c κs. search needs) add-i loop-less loop-again returns)

@@ -75,40 +75,13 @@ tabled x = x .before .before .before .before .before .before .before .before
 reads : (x : tie.After-known-told3) → Reads (entry (opened x) .args .«data» .now) (reading (tabled x)) (x .before .length .given .0 .0) (x .before .length .given .0 .1 .0)
 reads x = subst (Totals (entry (opened x) .args .«data» .now) (reading (tabled x))) (x .before .length .given .1) (x .before .before .before .before .before .pass .ensures .0)
 
-offset-of-requires : tie.Need-offset-of-requires
-offset-of-requires c κs = search needs
-
-enum-known-offset : tie.Need-enum-known-offset
-enum-known-offset c = search needs
-
-enum-told : tie.Need-enum-told
-enum-told c = search needs
-
 returns : tie.Need-returns
 returns c =
     let s = c .before .before .before .before .before .before in
     call-outside options refl _ _ (s .args .start) _ (data-short s) (sym (ap startedOf (c .enum-told .given .1)) ∙ started (c .before .before))
 
-start-requires : tie.Need-start-requires
-start-requires c κs = search needs
-
-at-offset-requires : tie.Need-at-offset-requires
-at-offset-requires c κs = search needs
-
-table-requires : tie.Need-table-requires
-table-requires c κs = search needs
-
 pass-requires : tie.Need-pass-requires
 pass-requires c κs = (sizes (c .before .before), (stands (c .before .before .before), λ e. absurd (true-not-false (sym e))))
-
-enum-known-k : tie.Need-enum-known-k
-enum-known-k c = search needs
-
-enum-known-length : tie.Need-enum-known-length
-enum-known-length c = search needs
-
-same-length : tie.Need-same-length
-same-length c = search needs
 
 returns-2 : tie.Need-returns-2
 returns-2 c =
@@ -134,9 +107,6 @@ position-of-requires c κs =
     let x = c .before .before .before .before .before .before in
     omega (arith, reads x .inside, data-short (entry (opened x)))
 
-same-length-2 : tie.Need-same-length-2
-same-length-2 c = search needs
-
 returns-3 : tie.Need-returns-3
 returns-3 c =
     let a = c .before .before .before .before .before .before .before .before .before in
@@ -146,9 +116,6 @@ returns-3 c =
     call-refused (lent t) (t .table .ensures) _ _ (s .args .start) _ (data-short s) (found a) (placed a)
     (p .pass .ensures .1)
     (subst (Totals (s .args .«data» .now) (reading t)) (c .before .k .given .1) (p .pass .ensures .0))
-
-same-length-3 : tie.Need-same-length-3
-same-length-3 c = search needs
 
 returns-4 : tie.Need-returns-4
 returns-4 c =
@@ -165,21 +132,21 @@ pub string-unpack-spec : {M : Type 1} → statement M
 string-unpack-spec =
     tie.close
     (tie.spec
-    offset-of-requires
-    enum-known-offset
-    enum-told
+    (λ c κs. search needs)
+    (λ c. search needs)
+    (λ c. search needs)
     returns
-    start-requires
-    at-offset-requires
-    table-requires
+    (λ c κs. search needs)
+    (λ c κs. search needs)
+    (λ c κs. search needs)
     pass-requires
-    enum-known-k
-    enum-known-length
-    same-length
+    (λ c. search needs)
+    (λ c. search needs)
+    (λ c. search needs)
     returns-2
     pass-requires-2
     position-of-requires
-    same-length-2
+    (λ c. search needs)
     returns-3
-    same-length-3
+    (λ c. search needs)
     returns-4)

@@ -6,18 +6,6 @@ use borrow.Author.Needs.{needs}
 use Rattle.word.proofs.any_integer.Statement.{statement}
 use Rattle.word.proofs.any_integer.Tie as tie
 
-as-integer-requires : tie.Need-as-integer-requires
-as-integer-requires c κs = search needs
-
-enum-known-z : tie.Need-enum-known-z
-enum-known-z c = search needs
-
-to-word-requires : tie.Need-to-word-requires
-to-word-requires c κs = search needs
-
-enum-told : tie.Need-enum-told
-enum-told c = search needs
-
 returns : tie.Need-returns
 returns c = λ l n. says-integer n _ _ (c .before .known-told .given .0 .1) (c .to-word .ensures) (small-word _ _ (sym (c .before .before .before .before .as-integer .ensures l) ∙ ap integerFound (c .before .before .z .given .1)) n)
 
@@ -27,4 +15,4 @@ returns-2 c = λ l n. says-refused n _ (small-none _ (sym (c .before .before .as
 pub any-integer-spec : {M : Type 1} → statement M
 any-integer-spec =
     tie.close
-    (tie.spec as-integer-requires enum-known-z to-word-requires enum-told returns returns-2)
+    (tie.spec (λ c κs. search needs) (λ c. search needs) (λ c κs. search needs) (λ c. search needs) returns returns-2)

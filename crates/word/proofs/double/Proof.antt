@@ -6,14 +6,8 @@ use borrow.Author.Needs.{needs}
 use Rattle.word.proofs.double.Statement.{statement}
 use Rattle.word.proofs.double.Tie as tie
 
-as-number-requires : tie.Need-as-number-requires
-as-number-requires c κs = search needs
-
-pattern-requires : tie.Need-pattern-requires
-pattern-requires c κs = search needs
-
 returns : tie.Need-returns
 returns c = λ l n h. says-as n (c .pattern .result) (c .pattern .ensures .0 n h) (double-word _ n ∙ sym (ap patternOr (c .before .as-number .ensures l)))
 
 pub double-spec : {M : Type 1} → statement M
-double-spec = tie.close (tie.spec as-number-requires pattern-requires returns)
+double-spec = tie.close (tie.spec (λ c κs. search needs) (λ c κs. search needs) returns)

@@ -13,18 +13,9 @@ returns c = sym (unsigned-negative (c .before .args .size) (c .before .args .z) 
 returns-2 : tie.Need-returns-2
 returns-2 c = sym (unsigned-wide (c .before .before .args .size) (c .before .before .args .z) (c .before .before .fits .z) (c .before .if1 .left) (c .if2 .taken))
 
-extent-requires : tie.Need-extent-requires
-extent-requires c κs = search needs
-
-mul-result : tie.Need-mul-result
-mul-result c = search needs
-
-shl-result : tie.Need-shl-result
-shl-result c = search needs
-
 returns-3 : tie.Need-returns-3
 returns-3 c = unsigned-narrow (c .before .before .before .args .size) (c .before .before .before .args .z) (c .extent .result) (c .before .before .before .fits .z) (c .before .before .if1 .left) (c .before .if2 .left) (c .extent .ensures ∙ ap extent (toZ-ofZ (c .before .before .before .fits .z)))
 
 pub in-unsigned-spec : {M : Type 1} → statement M
 in-unsigned-spec =
-    tie.close (tie.spec returns returns-2 extent-requires mul-result shl-result returns-3)
+    tie.close (tie.spec returns returns-2 (λ c κs. search needs) (λ c. search needs) (λ c. search needs) returns-3)

@@ -7,12 +7,6 @@ use borrow.Author.Needs.{needs}
 use Rattle.word.proofs.pattern.Statement.{statement}
 use Rattle.word.proofs.pattern.Tie as tie
 
-enum-known-n : tie.Need-enum-known-n
-enum-known-n c = search needs
-
-enum-told : tie.Need-enum-told
-enum-told c = search needs
-
 returns : tie.Need-returns
 returns c = (λ k h. says-pattern k _ h (ap (λ (x : _). patternOr (bitsFound x)) (c .before .n .given .1)), λ b e. same-bits _ b (sym (ap bitsFound (c .before .n .given .1)) ∙ e) (c .known-told .given .0 .1))
 
@@ -20,4 +14,4 @@ returns-2 : tie.Need-returns-2
 returns-2 c = (λ k h. says-refused k _ (ap (λ (x : _). patternOr (bitsFound x)) (c .enum-told .given .1)), λ b e. absurd (some-none (sym e ∙ ap bitsFound (c .enum-told .given .1))))
 
 pub pattern-spec : {M : Type 1} → statement M
-pattern-spec = tie.close (tie.spec enum-known-n enum-told returns returns-2)
+pattern-spec = tie.close (tie.spec (λ c. search needs) (λ c. search needs) returns returns-2)

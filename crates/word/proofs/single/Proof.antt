@@ -9,21 +9,6 @@ use borrow.Author.Needs.{needs}
 use Rattle.word.proofs.single.Statement.{statement}
 use Rattle.word.proofs.single.Tie as tie
 
-as-number-requires : tie.Need-as-number-requires
-as-number-requires c κs = search needs
-
-enum-known-b : tie.Need-enum-known-b
-enum-known-b c = search needs
-
-to-single-requires : tie.Need-to-single-requires
-to-single-requires c κs = search needs
-
-cast-t6 : tie.Need-cast-t6
-cast-t6 c = search needs
-
-enum-told : tie.Need-enum-told
-enum-told c = search needs
-
 returns : tie.Need-returns
 returns c = λ l n h. says-pattern n _ h (single-word _ _ n (sym (c .before .before .before .before .as-number .ensures l) ∙ ap bitsFound (c .before .before .b .given .1)) ∙ ap (λ (x : ℕ). accepted (pos x)) (sym (c .to-single .ensures)))
 
@@ -34,10 +19,10 @@ pub single-spec : {M : Type 1} → statement M
 single-spec =
     tie.close
     (tie.spec
-    as-number-requires
-    enum-known-b
-    to-single-requires
-    cast-t6
-    enum-told
+    (λ c κs. search needs)
+    (λ c. search needs)
+    (λ c κs. search needs)
+    (λ c. search needs)
+    (λ c. search needs)
     returns
     returns-2)

@@ -7,24 +7,6 @@ use borrow.Author.Needs.{needs}
 use Rattle.word.proofs.size_word.Statement.{statement}
 use Rattle.word.proofs.size_word.Tie as tie
 
-as-integer-requires : tie.Need-as-integer-requires
-as-integer-requires c κs = search needs
-
-enum-known-z : tie.Need-enum-known-z
-enum-known-z c = search needs
-
-to-word-requires : tie.Need-to-word-requires
-to-word-requires c κs = search needs
-
-enum-told : tie.Need-enum-told
-enum-told c = search needs
-
-as-wrapped-requires : tie.Need-as-wrapped-requires
-as-wrapped-requires c κs = search needs
-
-pattern-requires : tie.Need-pattern-requires
-pattern-requires c κs = search needs
-
 returns : tie.Need-returns
 returns c = λ l n h. says-integer n _ _ (c .before .known-told .given .0 .1) (c .to-word .ensures) (size-integer _ _ (sym (c .before .before .before .before .as-integer .ensures l) ∙ ap integerFound (c .before .before .z .given .1)) n)
 
@@ -35,11 +17,11 @@ pub size-word-spec : {M : Type 1} → statement M
 size-word-spec =
     tie.close
     (tie.spec
-    as-integer-requires
-    enum-known-z
-    to-word-requires
-    enum-told
-    as-wrapped-requires
-    pattern-requires
+    (λ c κs. search needs)
+    (λ c. search needs)
+    (λ c κs. search needs)
+    (λ c. search needs)
+    (λ c κs. search needs)
+    (λ c κs. search needs)
     returns
     returns-2)

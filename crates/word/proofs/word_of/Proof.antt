@@ -6,59 +6,8 @@ use borrow.Author.Needs.{needs}
 use Rattle.word.proofs.word_of.Statement.{statement}
 use Rattle.word.proofs.word_of.Tie as tie
 
-enum-told : tie.Need-enum-told
-enum-told c = search needs
-
-any-integer-requires : tie.Need-any-integer-requires
-any-integer-requires c κs = search needs
-
-enum-told-2 : tie.Need-enum-told-2
-enum-told-2 c = search needs
-
-any-integer-requires-2 : tie.Need-any-integer-requires-2
-any-integer-requires-2 c κs = search needs
-
-enum-told-3 : tie.Need-enum-told-3
-enum-told-3 c = search needs
-
 signed-requires : tie.Need-signed-requires
 signed-requires c κs = let s = c .before .before in (s .pre .0, signed-from-1 (s .args .kind) (s .args .size) (s .pre .1) (c .enum-told3 .given .1))
-
-enum-told-4 : tie.Need-enum-told-4
-enum-told-4 c = search needs
-
-unsigned-requires : tie.Need-unsigned-requires
-unsigned-requires c κs = search needs
-
-enum-told-5 : tie.Need-enum-told-5
-enum-told-5 c = search needs
-
-lua-integer-requires : tie.Need-lua-integer-requires
-lua-integer-requires c κs = search needs
-
-enum-told-6 : tie.Need-enum-told-6
-enum-told-6 c = search needs
-
-lua-unsigned-requires : tie.Need-lua-unsigned-requires
-lua-unsigned-requires c κs = search needs
-
-enum-told-7 : tie.Need-enum-told-7
-enum-told-7 c = search needs
-
-size-word-requires : tie.Need-size-word-requires
-size-word-requires c κs = search needs
-
-enum-told-8 : tie.Need-enum-told-8
-enum-told-8 c = search needs
-
-single-requires : tie.Need-single-requires
-single-requires c κs = search needs
-
-enum-told-9 : tie.Need-enum-told-9
-enum-told-9 c = search needs
-
-double-requires : tie.Need-double-requires
-double-requires c κs = search needs
 
 returns : tie.Need-returns
 returns c = let a = c .before .before .before .args in λ l. of-kind (a .size) _ (c .any-integer .result) (c .before .enum-told .given .1) (c .any-integer .ensures l (a .size))
@@ -95,24 +44,24 @@ pub word-of-spec : {M : Type 1} → statement M
 word-of-spec =
     tie.close
     (tie.spec
-    enum-told
-    any-integer-requires
-    enum-told-2
-    any-integer-requires-2
-    enum-told-3
+    (λ c. search needs)
+    (λ c κs. search needs)
+    (λ c. search needs)
+    (λ c κs. search needs)
+    (λ c. search needs)
     signed-requires
-    enum-told-4
-    unsigned-requires
-    enum-told-5
-    lua-integer-requires
-    enum-told-6
-    lua-unsigned-requires
-    enum-told-7
-    size-word-requires
-    enum-told-8
-    single-requires
-    enum-told-9
-    double-requires
+    (λ c. search needs)
+    (λ c κs. search needs)
+    (λ c. search needs)
+    (λ c κs. search needs)
+    (λ c. search needs)
+    (λ c κs. search needs)
+    (λ c. search needs)
+    (λ c κs. search needs)
+    (λ c. search needs)
+    (λ c κs. search needs)
+    (λ c. search needs)
+    (λ c κs. search needs)
     returns
     returns-2
     returns-3

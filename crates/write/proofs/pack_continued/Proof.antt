@@ -26,14 +26,8 @@ sound c = let i = c .before .before in sym (i .is-sound .ensures) ∙ not-false 
 listed : (c : tie.After-is-list) → not (c .is-list .result) ≡ false → isAccepted (values (c .before .before .before .before .before .before .args .list .now)) ≡ true
 listed c e = sym (c .is-list .ensures) ∙ not-false (c .is-list .result) e
 
-is-sound-requires : tie.Need-is-sound-requires
-is-sound-requires c κs = search needs
-
 returns : tie.Need-returns
 returns c = let i = c .before in unsound options refl _ _ _ _ (sym (i .is-sound .ensures) ∙ not-true (i .is-sound .result) (c .if1 .taken))
-
-is-list-requires : tie.Need-is-list-requires
-is-list-requires c κs = search needs
 
 returns-2 : tie.Need-returns-2
 returns-2 c = let l = c .before in malformed options refl _ _ _ _ (sound l) (sym (l .is-list .ensures) ∙ not-true (l .is-list .result) (c .if2 .taken))
@@ -42,24 +36,12 @@ pass-requires : tie.Need-pass-requires
 unfolding packed
 pass-requires c κs = let y = c .before .before in (sizes, (listed (y .before) (y .if2 .left), (sound (y .before), λ e. absurd (true-not-false (sym e)))))
 
-enum-known-total : tie.Need-enum-known-total
-enum-known-total c = search needs
-
-enum-told : tie.Need-enum-told
-enum-told c = search needs
-
-same-length : tie.Need-same-length
-same-length c = search needs
-
 returns-3 : tie.Need-returns-3
 unfolding packed
 returns-3 c =
     let p = c .before .before .before .before in
     let y = p .before .before .before in
     total-refused _ packed-options _ _ _ _ (sound (y .before)) (listed (y .before) (y .if2 .left)) (p .pass .ensures .1) (c .enum-told .given .1) (p .pass .ensures .0)
-
-same-length-2 : tie.Need-same-length-2
-same-length-2 c = search needs
 
 returns-4 : tie.Need-returns-4
 unfolding packed
@@ -79,9 +61,6 @@ pass-requires-2 c κs =
     let l = listed (y .before) (y .if2 .left) in
     (sizes, (l, (s, λ e. fits _ packed-options _ _ _ _ s l (p .pass .ensures .1) (t .total .given .1) (p .pass .ensures .0) (c .before .before .if3 .left))))
 
-same-length-3 : tie.Need-same-length-3
-same-length-3 c = search needs
-
 returns-5 : tie.Need-returns-5
 unfolding packed
 returns-5 c =
@@ -96,17 +75,17 @@ pub pack-continued-spec : {M : Type 1} → statement M
 pack-continued-spec =
     tie.close
     (tie.spec
-    is-sound-requires
+    (λ c κs. search needs)
     returns
-    is-list-requires
+    (λ c κs. search needs)
     returns-2
     pass-requires
-    enum-known-total
-    enum-told
-    same-length
+    (λ c. search needs)
+    (λ c. search needs)
+    (λ c. search needs)
     returns-3
-    same-length-2
+    (λ c. search needs)
     returns-4
     pass-requires-2
-    same-length-3
+    (λ c. search needs)
     returns-5)

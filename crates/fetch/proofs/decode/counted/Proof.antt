@@ -8,35 +8,11 @@ use borrow.Author.Needs.{needs}
 use Rattle.fetch.proofs.decode.counted.Statement.{statement}
 use Rattle.fetch.proofs.decode.counted.Tie as tie
 
-left-requires : tie.Need-left-requires
-left-requires c κs = search needs
-
 returns : tie.Need-returns
 returns c = counted-short _ _ _ _ (omega arith)
 
-get-unsigned-requires : tie.Need-get-unsigned-requires
-get-unsigned-requires c κs = search needs
-
-enum-known-n : tie.Need-enum-known-n
-enum-known-n c = search needs
-
-enum-told : tie.Need-enum-told
-enum-told c = search needs
-
 returns-2 : tie.Need-returns-2
 returns-2 c = counted-wide _ _ _ _ (sym (ap unsignedOf (c .enum-told .given .1)) ∙ c .before .before .get-unsigned .ensures)
-
-further-requires : tie.Need-further-requires
-further-requires c κs = search needs
-
-text-requires : tie.Need-text-requires
-text-requires c κs = search needs
-
-enum-known-k : tie.Need-enum-known-k
-enum-known-k c = search needs
-
-enum-known-r : tie.Need-enum-known-r
-enum-known-r c = search needs
 
 add-t17 : tie.Need-add-t17
 add-t17 c =
@@ -69,16 +45,16 @@ pub counted-spec : {M : Type 1} → statement M
 counted-spec =
     tie.close
     (tie.spec
-    left-requires
+    (λ c κs. search needs)
     returns
-    get-unsigned-requires
-    enum-known-n
-    enum-told
+    (λ c κs. search needs)
+    (λ c. search needs)
+    (λ c. search needs)
     returns-2
-    further-requires
-    text-requires
-    enum-known-k
-    enum-known-r
+    (λ c κs. search needs)
+    (λ c κs. search needs)
+    (λ c. search needs)
+    (λ c. search needs)
     add-t17
     returns-3
     returns-4)

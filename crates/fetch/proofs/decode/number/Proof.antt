@@ -5,29 +5,14 @@ use borrow.Author.Needs.{needs}
 use Rattle.fetch.proofs.decode.number.Statement.{statement}
 use Rattle.fetch.proofs.decode.number.Tie as tie
 
-left-requires : tie.Need-left-requires
-left-requires c κs = search needs
-
 returns : tie.Need-returns
 returns c = number-short _ _ _ _ _ (omega arith)
-
-signed-requires : tie.Need-signed-requires
-signed-requires c κs = search needs
-
-unsigned-requires : tie.Need-unsigned-requires
-unsigned-requires c κs = search needs
-
-enum-told : tie.Need-enum-told
-enum-told c = search needs
 
 single-requires : tie.Need-single-requires
 single-requires c κs =
     let s = c .before .before .before .before .before in
     let q = single-size (s .args .kind) (s .args .size) (s .pre .1) (c .enum-told .given .1) in
     omega arith
-
-enum-told-2 : tie.Need-enum-told-2
-enum-told-2 c = search needs
 
 double-requires : tie.Need-double-requires
 double-requires c κs =
@@ -57,13 +42,13 @@ pub number-spec : {M : Type 1} → statement M
 number-spec =
     tie.close
     (tie.spec
-    left-requires
+    (λ c κs. search needs)
     returns
-    signed-requires
-    unsigned-requires
-    enum-told
+    (λ c κs. search needs)
+    (λ c κs. search needs)
+    (λ c. search needs)
     single-requires
-    enum-told-2
+    (λ c. search needs)
     double-requires
     returns-2
     returns-3

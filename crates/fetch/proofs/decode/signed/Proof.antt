@@ -6,15 +6,6 @@ use borrow.Author.Needs.{needs}
 use Rattle.fetch.proofs.decode.signed.Statement.{statement}
 use Rattle.fetch.proofs.decode.signed.Tie as tie
 
-get-signed-requires : tie.Need-get-signed-requires
-get-signed-requires c κs = search needs
-
-enum-known-z : tie.Need-enum-known-z
-enum-known-z c = search needs
-
-enum-told : tie.Need-enum-told
-enum-told c = search needs
-
 returns : tie.Need-returns
 returns c =
     let z = c .before in
@@ -26,4 +17,4 @@ returns-2 : tie.Need-returns-2
 returns-2 c = signed-wide _ _ _ _ (sym (ap signedOf (c .enum-told .given .1)) ∙ c .before .before .get-signed .ensures)
 
 pub signed-spec : {M : Type 1} → statement M
-signed-spec = tie.close (tie.spec get-signed-requires enum-known-z enum-told returns returns-2)
+signed-spec = tie.close (tie.spec (λ c κs. search needs) (λ c. search needs) (λ c. search needs) returns returns-2)

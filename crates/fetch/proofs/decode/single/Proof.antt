@@ -4,17 +4,8 @@ use borrow.Author.Needs.{needs}
 use Rattle.fetch.proofs.decode.single.Statement.{statement}
 use Rattle.fetch.proofs.decode.single.Tie as tie
 
-get-word-requires : tie.Need-get-word-requires
-get-word-requires c κs = search needs
-
-cast-from-single : tie.Need-cast-from-single
-cast-from-single c = search needs
-
-from-single-requires : tie.Need-from-single-requires
-from-single-requires c κs = search needs
-
 returns : tie.Need-returns
 returns c = single-read _ _ _ 4 (c .from-single .ensures) (c .before .get-word .ensures .0) (c .before .before .before .pre)
 
 pub single-spec : {M : Type 1} → statement M
-single-spec = tie.close (tie.spec get-word-requires cast-from-single from-single-requires returns)
+single-spec = tie.close (tie.spec (λ c κs. search needs) (λ c. search needs) (λ c κs. search needs) returns)

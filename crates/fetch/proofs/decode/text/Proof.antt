@@ -5,9 +5,6 @@ use borrow.Author.Needs.{needs}
 use Rattle.fetch.proofs.decode.text.Statement.{statement}
 use Rattle.fetch.proofs.decode.text.Tie as tie
 
-left-requires : tie.Need-left-requires
-left-requires c κs = search needs
-
 returns : tie.Need-returns
 returns c = λ o. chars-short _ _ _ o (omega arith)
 
@@ -18,4 +15,4 @@ returns-3 : tie.Need-returns-3
 returns-3 c = λ o. chars-read _ _ _ o (omega arith) (c .if2 .left)
 
 pub text-spec : {M : Type 1} → statement M
-text-spec = tie.close (tie.spec left-requires returns returns-2 returns-3)
+text-spec = tie.close (tie.spec (λ c κs. search needs) returns returns-2 returns-3)

@@ -8,18 +8,6 @@ use Rattle.fetch.proofs.Numbers.{unsigned-read, unsigned-wide}
 use Rattle.fetch.proofs.decode.unsigned.Statement.{statement}
 use Rattle.fetch.proofs.decode.unsigned.Tie as tie
 
-get-unsigned-requires : tie.Need-get-unsigned-requires
-get-unsigned-requires c κs = search needs
-
-enum-known-word : tie.Need-enum-known-word
-enum-known-word c = search needs
-
-to-signed-requires : tie.Need-to-signed-requires
-to-signed-requires c κs = search needs
-
-enum-told : tie.Need-enum-told
-enum-told c = search needs
-
 returns : tie.Need-returns
 returns c =
     let w = c .before .before in
@@ -34,4 +22,4 @@ returns-2 c = unsigned-wide _ _ _ _ (sym (ap unsignedOf (c .enum-told .given .1)
 pub unsigned-spec : {M : Type 1} → statement M
 unsigned-spec =
     tie.close
-    (tie.spec get-unsigned-requires enum-known-word to-signed-requires enum-told returns returns-2)
+    (tie.spec (λ c κs. search needs) (λ c. search needs) (λ c κs. search needs) (λ c. search needs) returns returns-2)

@@ -9,28 +9,16 @@ use Rattle.format.proofs.operand.behind_x.Tie as tie
 returns : tie.Need-returns
 returns c = let a = c .before .before .args in (Natural.natural-nil (tableAt (now (a .table))) (now (a .rest)) (c .if1 .taken), tt)
 
-shared-slice-read-b : tie.Need-shared-slice-read-b
-shared-slice-read-b c = search needs
-
 returns-2 : tie.Need-returns-2
 returns-2 c =
     let a = c .before .before .before .before .args in
     (Natural.natural-high (tableAt (now (a .table))) (now (a .rest)) (c .before .before .if1 .left) (c .if2 .taken), tt)
-
-entry-requires : tie.Need-entry-requires
-entry-requires c κs = search needs
-
-skip-digits-requires : tie.Need-skip-digits-requires
-skip-digits-requires c κs = search needs
 
 returns-3 : tie.Need-returns-3
 returns-3 c =
     let e = c .before .before in
     let a = e .before .before .before .before .before .args in
     (Natural.natural-single (tableAt (now (a .table))) (now (a .rest)) (e .before .before .before .if1 .left) (e .before .if2 .left) (e .entry .result) (e .entry .ensures) (c .before .if3 .taken) _ (c .skip-digits .ensures), tt)
-
-size-of-requires : tie.Need-size-of-requires
-size-of-requires c κs = search needs
 
 returns-4 : tie.Need-returns-4
 returns-4 c =
@@ -69,12 +57,12 @@ behind-x-spec =
     tie.close
     (tie.spec
     returns
-    shared-slice-read-b
+    (λ c. search needs)
     returns-2
-    entry-requires
-    skip-digits-requires
+    (λ c κs. search needs)
+    (λ c κs. search needs)
     returns-3
-    size-of-requires
+    (λ c κs. search needs)
     returns-4
     returns-5
     returns-6

@@ -6,24 +6,6 @@ use Rattle.format.proofs.Numerals.{missing-is, large-is, value-is}
 use Rattle.format.proofs.operand.by_numeral.Statement.{statement}
 use Rattle.format.proofs.operand.by_numeral.Tie as tie
 
-read-requires : tie.Need-read-requires
-read-requires c κs = search needs
-
-enum-told : tie.Need-enum-told
-enum-told c = search needs
-
-without-numeral-requires : tie.Need-without-numeral-requires
-without-numeral-requires c κs = search needs
-
-enum-told-2 : tie.Need-enum-told-2
-enum-told-2 c = search needs
-
-enum-known-n : tie.Need-enum-known-n
-enum-known-n c = search needs
-
-with-numeral-requires : tie.Need-with-numeral-requires
-with-numeral-requires c κs = search needs
-
 returns : tie.Need-returns
 returns c =
     let b = c .before .before .before .before .before in
@@ -43,12 +25,12 @@ pub by-numeral-spec : {M : Type 1} → statement M
 by-numeral-spec =
     tie.close
     (tie.spec
-    read-requires
-    enum-told
-    without-numeral-requires
-    enum-told-2
-    enum-known-n
-    with-numeral-requires
+    (λ c κs. search needs)
+    (λ c. search needs)
+    (λ c κs. search needs)
+    (λ c. search needs)
+    (λ c. search needs)
+    (λ c κs. search needs)
     returns
     returns-2
     returns-3)

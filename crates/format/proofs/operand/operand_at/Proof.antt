@@ -13,31 +13,16 @@ use Rattle.format.proofs.Shown.{shown-missing, shown-digit, digit-size,
 use Rattle.format.proofs.operand.operand_at.Statement.{statement}
 use Rattle.format.proofs.operand.operand_at.Tie as tie
 
-shown-requires : tie.Need-shown-requires
-shown-requires c κs = search needs
-
-enum-told : tie.Need-enum-told
-enum-told c = search needs
-
-size-of-requires : tie.Need-size-of-requires
-size-of-requires c κs = search needs
-
 returns : tie.Need-returns
 returns c =
     let a = c .before .before .before .before .before .before .args in
     rw (c .size-of .ensures) (shown-missing (tableAt (now (a .table))) (a .e) (drop (a .at) (now (a .format))) (sym (c .before .before .before .before .shown .ensures) ∙ c .before .before .enum-told .given .1) (c .before .if1 .taken))
-
-enum-known-d : tie.Need-enum-known-d
-enum-known-d c = search needs
 
 returns-2 : tie.Need-returns-2
 returns-2 c =
     let a = c .before .before .before .before .before .before .args in
     let s = drop (a .at) (now (a .format)) in
     digit-size (tableAt (now (a .table))) (a .e) s _ (shown-digit (tableAt (now (a .table))) (a .e) s _ (sym (c .before .before .before .before .shown .ensures) ∙ c .before .before .d .given .1)) (c .if2 .taken)
-
-is-power-requires : tie.Need-is-power-requires
-is-power-requires c κs = search needs
 
 returns-3 : tie.Need-returns-3
 returns-3 c =
@@ -46,18 +31,6 @@ returns-3 c =
     let t = tableAt (now (a .table)) in
     let e = shown-digit t (a .e) s _ (sym (c .before .before .before .before .before .before .shown .ensures) ∙ c .before .before .before .before .d .given .1) in
     digit-limit t (a .e) s _ e (c .before .before .if2 .left) (sym (c .before .is-power .ensures) ∙ c .if3 .taken)
-
-enum-told-2 : tie.Need-enum-told-2
-enum-told-2 c = search needs
-
-sub-operand-of : tie.Need-sub-operand-of
-sub-operand-of c = search needs
-
-part-operand-of-start : tie.Need-part-operand-of-start
-part-operand-of-start c = search needs
-
-part-operand-of-end : tie.Need-part-operand-of-end
-part-operand-of-end c = search needs
 
 operand-of-requires : tie.Need-operand-of-requires
 operand-of-requires c κs =
@@ -74,17 +47,17 @@ pub operand-at-spec : {M : Type 1} → statement M
 operand-at-spec =
     tie.close
     (tie.spec
-    shown-requires
-    enum-told
-    size-of-requires
+    (λ c κs. search needs)
+    (λ c. search needs)
+    (λ c κs. search needs)
     returns
-    enum-known-d
+    (λ c. search needs)
     returns-2
-    is-power-requires
+    (λ c κs. search needs)
     returns-3
-    enum-told-2
-    sub-operand-of
-    part-operand-of-start
-    part-operand-of-end
+    (λ c. search needs)
+    (λ c. search needs)
+    (λ c. search needs)
+    (λ c. search needs)
     operand-of-requires
     returns-4)

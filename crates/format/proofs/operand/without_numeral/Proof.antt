@@ -4,9 +4,6 @@ use Rattle.format.proofs.Entries.{sized-by, chars-by, limit-by}
 use Rattle.format.proofs.operand.without_numeral.Statement.{statement}
 use Rattle.format.proofs.operand.without_numeral.Tie as tie
 
-size-of-requires : tie.Need-size-of-requires
-size-of-requires c κs = search needs
-
 returns : tie.Need-returns
 returns c = rw (sized-by _ (c .before .before .pre .0) (c .before .if1 .taken) _, c .size-of .ensures)
 
@@ -17,4 +14,4 @@ returns-3 : tie.Need-returns-3
 returns-3 c = rw (limit-by _ (c .if2 .left) (c .before .before .pre .1) _)
 
 pub without-numeral-spec : {M : Type 1} → statement M
-without-numeral-spec = tie.close (tie.spec size-of-requires returns returns-2 returns-3)
+without-numeral-spec = tie.close (tie.spec (λ c κs. search needs) returns returns-2 returns-3)

@@ -30,12 +30,6 @@ item c =
     sym (c .before .before .before .before .next .ensures) ∙ ap nextOf (c .before .before .i .given .1)
     ∙ ap (λ (o : Op). accepted (some (o, c .before .before .i .given .0 .1 .0 .at))) (sym (c .op .ensures))
 
-new-requires : tie.Need-new-requires Inv-loop μ-loop
-new-requires c κs = tt
-
-start-requires : tie.Need-start-requires Inv-loop μ-loop
-start-requires c κs = tt
-
 loop-holds : tie.Need-loop-holds Inv-loop μ-loop
 loop-holds c =
     let a = c .before .before .before .args in
@@ -63,12 +57,6 @@ returns-2 c =
 enum-known-i : tie.Need-enum-known-i Inv-loop μ-loop
 enum-known-i c = c .match .keys3
 
-op-requires : tie.Need-op-requires Inv-loop μ-loop
-op-requires c κs = tt
-
-bound-op-requires : tie.Need-bound-op-requires Inv-loop μ-loop
-bound-op-requires c κs = tt
-
 enum-known-k-2 : tie.Need-enum-known-k-2 Inv-loop μ-loop
 enum-known-k-2 c = c .match2 .keys1
 
@@ -80,9 +68,6 @@ returns-3 c =
 
 enum-known-t : tie.Need-enum-known-t Inv-loop μ-loop
 enum-known-t c = c .match2 .keys2
-
-parts-requires : tie.Need-parts-requires Inv-loop μ-loop
-parts-requires c κs = tt
 
 loop-less : tie.Need-loop-less Inv-loop μ-loop
 loop-less c =
@@ -103,8 +88,8 @@ bound-by-spec =
     (tie.spec
     Inv-loop
     μ-loop
-    new-requires
-    start-requires
+    (λ c κs. tt)
+    (λ c κs. tt)
     loop-holds
     next-requires
     enum-told
@@ -112,11 +97,11 @@ bound-by-spec =
     enum-known-k
     returns-2
     enum-known-i
-    op-requires
-    bound-op-requires
+    (λ c κs. tt)
+    (λ c κs. tt)
     enum-known-k-2
     returns-3
     enum-known-t
-    parts-requires
+    (λ c κs. tt)
     loop-less
     loop-again)

@@ -3,30 +3,6 @@ use borrow.Author.Needs.{needs}
 use Rattle.measure.proofs.bound.most.Statement.{statement}
 use Rattle.measure.proofs.bound.most.Tie as tie
 
-enum-told : tie.Need-enum-told
-enum-told c = search needs
-
-enum-known-f : tie.Need-enum-known-f
-enum-known-f c = search needs
-
-text-field-requires : tie.Need-text-field-requires
-text-field-requires c κs = search needs
-
-enum-told-2 : tie.Need-enum-told-2
-enum-told-2 c = search needs
-
-text-field-requires-2 : tie.Need-text-field-requires-2
-text-field-requires-2 c κs = search needs
-
-enum-told-3 : tie.Need-enum-told-3
-enum-told-3 c = search needs
-
-text-field-requires-3 : tie.Need-text-field-requires-3
-text-field-requires-3 c κs = search needs
-
-returns : tie.Need-returns
-returns c = search needs
-
 returns-2 : tie.Need-returns-2
 returns-2 c = rw (c .before .before .f .given .1) (c .text-field .ensures)
 
@@ -40,14 +16,14 @@ pub most-spec : {M : Type 1} → statement M
 most-spec =
     tie.close
     (tie.spec
-    enum-told
-    enum-known-f
-    text-field-requires
-    enum-told-2
-    text-field-requires-2
-    enum-told-3
-    text-field-requires-3
-    returns
+    (λ c. search needs)
+    (λ c. search needs)
+    (λ c κs. search needs)
+    (λ c. search needs)
+    (λ c κs. search needs)
+    (λ c. search needs)
+    (λ c κs. search needs)
+    (λ c. search needs)
     returns-2
     returns-3
     returns-4)

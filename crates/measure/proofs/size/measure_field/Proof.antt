@@ -5,21 +5,6 @@ use borrow.Author.Needs.{needs}
 use Rattle.measure.proofs.size.measure_field.Statement.{statement}
 use Rattle.measure.proofs.size.measure_field.Tie as tie
 
-size-of-requires : tie.Need-size-of-requires
-size-of-requires c κs = search needs
-
-enum-known-k : tie.Need-enum-known-k
-enum-known-k c = search needs
-
-enum-known-n : tie.Need-enum-known-n
-enum-known-n c = search needs
-
-natural-requires : tie.Need-natural-requires
-natural-requires c κs = search needs
-
-measure-pad-requires : tie.Need-measure-pad-requires
-measure-pad-requires c κs = search needs
-
 returns : tie.Need-returns
 returns c = rw (sym (c .before .before .before .size-of .ensures) ∙ ap amountOf (c .before .k .given .1))
 
@@ -32,10 +17,10 @@ pub measure-field-spec : {M : Type 1} → statement M
 measure-field-spec =
     tie.close
     (tie.spec
-    size-of-requires
-    enum-known-k
-    enum-known-n
-    natural-requires
-    measure-pad-requires
+    (λ c κs. search needs)
+    (λ c. search needs)
+    (λ c. search needs)
+    (λ c κs. search needs)
+    (λ c κs. search needs)
     returns
     returns-2)

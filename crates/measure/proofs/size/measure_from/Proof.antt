@@ -29,9 +29,6 @@ item c =
     sym (c .before .before .before .before .next .ensures) ∙ ap nextOf (c .before .before .i .given .1)
     ∙ ap (λ (o : Op). accepted (some (o, c .before .before .i .given .0 .1 .0 .at))) (sym (c .op .ensures))
 
-new-requires : tie.Need-new-requires Inv-loop μ-loop
-new-requires c κs = tt
-
 loop-holds : tie.Need-loop-holds Inv-loop μ-loop
 loop-holds c = run-none measureOp _ _ _ _ (c .new .ensures)
 
@@ -57,12 +54,6 @@ returns-2 c =
 enum-known-i : tie.Need-enum-known-i Inv-loop μ-loop
 enum-known-i c = c .match .keys3
 
-op-requires : tie.Need-op-requires Inv-loop μ-loop
-op-requires c κs = tt
-
-measure-op-requires : tie.Need-measure-op-requires Inv-loop μ-loop
-measure-op-requires c κs = tt
-
 enum-known-k-2 : tie.Need-enum-known-k-2 Inv-loop μ-loop
 enum-known-k-2 c = c .match2 .keys1
 
@@ -74,9 +65,6 @@ returns-3 c =
 
 enum-known-t : tie.Need-enum-known-t Inv-loop μ-loop
 enum-known-t c = c .match2 .keys2
-
-parts-requires : tie.Need-parts-requires Inv-loop μ-loop
-parts-requires c κs = tt
 
 loop-less : tie.Need-loop-less Inv-loop μ-loop
 loop-less c =
@@ -97,7 +85,7 @@ measure-from-spec =
     (tie.spec
     Inv-loop
     μ-loop
-    new-requires
+    (λ c κs. tt)
     loop-holds
     next-requires
     enum-told
@@ -105,11 +93,11 @@ measure-from-spec =
     enum-known-k
     returns-2
     enum-known-i
-    op-requires
-    measure-op-requires
+    (λ c κs. tt)
+    (λ c κs. tt)
     enum-known-k-2
     returns-3
     enum-known-t
-    parts-requires
+    (λ c κs. tt)
     loop-less
     loop-again)

@@ -7,32 +7,8 @@ use Rattle.measure.proofs.Lengths.{pad-refused, pad-nothing, pad-some}
 use Rattle.measure.proofs.size.measure_pad.Statement.{statement}
 use Rattle.measure.proofs.size.measure_pad.Tie as tie
 
-padding-requires : tie.Need-padding-requires
-padding-requires c κs = search needs
-
-enum-known-k : tie.Need-enum-known-k
-enum-known-k c = search needs
-
-enum-known-p : tie.Need-enum-known-p
-enum-known-p c = search needs
-
-longer-requires : tie.Need-longer-requires
-longer-requires c κs = search needs
-
 returns : tie.Need-returns
 returns c = c .longer .ensures ∙ pad-nothing _ _ _ _ (sym (c .before .before .before .before .before .padding .ensures) ∙ ap amountOf (c .before .before .before .p .given .1)) (c .before .if1 .taken)
-
-longer-requires-2 : tie.Need-longer-requires-2
-longer-requires-2 c κs = search needs
-
-enum-known-k-2 : tie.Need-enum-known-k-2
-enum-known-k-2 c = search needs
-
-enum-known-t : tie.Need-enum-known-t
-enum-known-t c = search needs
-
-longer-requires-3 : tie.Need-longer-requires-3
-longer-requires-3 c κs = search needs
 
 returns-2 : tie.Need-returns-2
 returns-2 c = pad-refused _ _ _ _ (sym (c .before .before .before .padding .ensures) ∙ ap amountOf (c .before .k .given .1))
@@ -53,15 +29,15 @@ pub measure-pad-spec : {M : Type 1} → statement M
 measure-pad-spec =
     tie.close
     (tie.spec
-    padding-requires
-    enum-known-k
-    enum-known-p
-    longer-requires
+    (λ c κs. search needs)
+    (λ c. search needs)
+    (λ c. search needs)
+    (λ c κs. search needs)
     returns
-    longer-requires-2
-    enum-known-k-2
-    enum-known-t
-    longer-requires-3
+    (λ c κs. search needs)
+    (λ c. search needs)
+    (λ c. search needs)
+    (λ c κs. search needs)
     returns-2
     returns-3
     returns-4)

@@ -7,20 +7,8 @@ use borrow.Author.Needs.{needs}
 use Rattle.measure.proofs.size.string_packsize.Statement.{statement}
 use Rattle.measure.proofs.size.string_packsize.Tie as tie
 
-table-requires : tie.Need-table-requires
-table-requires c κs = search needs
-
-start-requires : tie.Need-start-requires
-start-requires c κs = search needs
-
 measure-from-requires : tie.Need-measure-from-requires
 measure-from-requires c κs = subst Sizes (sym (c .before .before .table .ensures)) options-sizes
-
-enum-known-k : tie.Need-enum-known-k
-enum-known-k c = search needs
-
-enum-known-s : tie.Need-enum-known-s
-enum-known-s c = search needs
 
 returns : tie.Need-returns
 returns c =
@@ -36,10 +24,10 @@ pub string-packsize-spec : {M : Type 1} → statement M
 string-packsize-spec =
     tie.close
     (tie.spec
-    table-requires
-    start-requires
+    (λ c κs. search needs)
+    (λ c κs. search needs)
     measure-from-requires
-    enum-known-k
-    enum-known-s
+    (λ c. search needs)
+    (λ c. search needs)
     returns
     returns-2)

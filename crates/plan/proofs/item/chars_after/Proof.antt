@@ -26,15 +26,6 @@ returns c =
     let a = s .args in
     text-early (a .list .now) (a .at) (a .s) (Field.Chars (a .n)) tt (s .pre .1 .1) (chars-early (a .s) (a .n) (sym (f .fits2 .ensures) ∙ not-true (f .fits2 .result) (c .if1 .taken)))
 
-text-at-requires : tie.Need-text-at-requires
-text-at-requires c κs = search needs
-
-enum-known-k : tie.Need-enum-known-k
-enum-known-k c = search needs
-
-enum-known-start : tie.Need-enum-known-start
-enum-known-start c = search needs
-
 returns-2 : tie.Need-returns-2
 returns-2 c =
     let t = c .before .before .before .before in
@@ -43,9 +34,6 @@ returns-2 c =
     let x = c .before .before in
     let h = rw (x .start .given .1) at (t .text-at .ensures) in
     text-refused (a .list .now) (a .at) (a .s) (Field.Chars (a .n)) tt (s .pre .1 .1) (chars-room (a .s) (a .n) (room t)) h (chars-long (a .s .big) (a .list .now) _ _ (h .within) (a .n) (c .if2 .taken))
-
-sub-put-text : tie.Need-sub-put-text
-sub-put-text c = search needs
 
 put-text-requires : tie.Need-put-text-requires
 put-text-requires c κs =
@@ -77,11 +65,11 @@ chars-after-spec =
     (tie.spec
     fits-requires
     returns
-    text-at-requires
-    enum-known-k
-    enum-known-start
+    (λ c κs. search needs)
+    (λ c. search needs)
+    (λ c. search needs)
     returns-2
-    sub-put-text
+    (λ c. search needs)
     put-text-requires
     returns-3
     returns-4)

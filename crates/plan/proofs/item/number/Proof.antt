@@ -7,18 +7,6 @@ use borrow.Author.Needs.{needs}
 use Rattle.plan.proofs.item.number.Statement.{statement}
 use Rattle.plan.proofs.item.number.Tie as tie
 
-enum-known-padded : tie.Need-enum-known-padded
-enum-known-padded c = search needs
-
-enum-known-padded-2 : tie.Need-enum-known-padded-2
-enum-known-padded-2 c = search needs
-
-field-at-requires : tie.Need-field-at-requires
-field-at-requires c κs = search needs
-
-enum-known-v : tie.Need-enum-known-v
-enum-known-v c = search needs
-
 put-number-requires : tie.Need-put-number-requires
 put-number-requires c κs =
     let f = c .before .before .before in
@@ -26,9 +14,6 @@ put-number-requires c κs =
     let s = x .before .before .before in
     let h = rw (c .before .v .given .1) at (f .field-at .ensures) in
     (s .pre .0, (padding-lt (s .args .s) _ _ (sym (s .pre .1 .1 .0) ∙ ap amountOf (x .padded2 .given .1)), (h .sound .proper, s .pre .1 .1 .1)))
-
-enum-told : tie.Need-enum-told
-enum-told c = search needs
 
 returns : tie.Need-returns
 returns c =
@@ -57,12 +42,12 @@ pub number-spec : {M : Type 1} → statement M
 number-spec =
     tie.close
     (tie.spec
-    enum-known-padded
-    enum-known-padded-2
-    field-at-requires
-    enum-known-v
+    (λ c. search needs)
+    (λ c. search needs)
+    (λ c κs. search needs)
+    (λ c. search needs)
     put-number-requires
-    enum-told
+    (λ c. search needs)
     returns
     returns-2
     returns-3)

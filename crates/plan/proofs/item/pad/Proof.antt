@@ -7,15 +7,6 @@ use borrow.Author.Needs.{needs}
 use Rattle.plan.proofs.item.pad.Statement.{statement}
 use Rattle.plan.proofs.item.pad.Tie as tie
 
-padding-requires : tie.Need-padding-requires
-padding-requires c κs = search needs
-
-enum-known-k : tie.Need-enum-known-k
-enum-known-k c = search needs
-
-enum-known-p : tie.Need-enum-known-p
-enum-known-p c = search needs
-
 add-fits : tie.Need-add-fits
 add-fits c = omega (arith, padding-lt _ _ _ (sym (c .before .before .before .padding .ensures) ∙ ap amountOf (c .before .p .given .1)))
 
@@ -44,9 +35,9 @@ pub pad-spec : {M : Type 1} → statement M
 pad-spec =
     tie.close
     (tie.spec
-    padding-requires
-    enum-known-k
-    enum-known-p
+    (λ c κs. search needs)
+    (λ c. search needs)
+    (λ c. search needs)
     add-fits
     fits-requires
     add-t11

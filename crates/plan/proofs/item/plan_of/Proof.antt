@@ -6,20 +6,8 @@ use borrow.Author.Needs.{needs}
 use Rattle.plan.proofs.item.plan_of.Statement.{statement}
 use Rattle.plan.proofs.item.plan_of.Tie as tie
 
-enum-told : tie.Need-enum-told
-enum-told c = search needs
-
-enum-known-op : tie.Need-enum-known-op
-enum-known-op c = search needs
-
-enum-known-op-2 : tie.Need-enum-known-op-2
-enum-known-op-2 c = search needs
-
 pad-requires : tie.Need-pad-requires
 pad-requires c κs = let s = c .before .before .before .before in (s .pre .0, pad-small (s .args .op) _ _ (s .pre .1 .1) (c .before .op2 .given .1))
-
-enum-known-op-3 : tie.Need-enum-known-op-3
-enum-known-op-3 c = search needs
 
 field-requires : tie.Need-field-requires
 field-requires c κs = let s = c .before .before .before .before in (s .pre .0, (s .pre .1 .0, op-as (s .args .op) _ (s .pre .1 .1) (c .before .op3 .given .1)))
@@ -49,11 +37,11 @@ pub plan-of-spec : {M : Type 1} → statement M
 plan-of-spec =
     tie.close
     (tie.spec
-    enum-told
-    enum-known-op
-    enum-known-op-2
+    (λ c. search needs)
+    (λ c. search needs)
+    (λ c. search needs)
     pad-requires
-    enum-known-op-3
+    (λ c. search needs)
     field-requires
     returns
     returns-2

@@ -6,15 +6,6 @@ use borrow.Author.Needs.{needs}
 use Rattle.plan.proofs.item.put_number.Statement.{statement}
 use Rattle.plan.proofs.item.put_number.Tie as tie
 
-word-of-requires : tie.Need-word-of-requires
-word-of-requires c κs = search needs
-
-enum-known-k : tie.Need-enum-known-k
-enum-known-k c = search needs
-
-enum-known-w : tie.Need-enum-known-w
-enum-known-w c = search needs
-
 add-fits : tie.Need-add-fits
 add-fits c = let s = c .before .before .before .before in omega (arith, s .pre .1 .0, size-small (s .args .kind) (s .args .size) (s .pre .1 .1 .1))
 
@@ -42,9 +33,9 @@ pub put-number-spec : {M : Type 1} → statement M
 put-number-spec =
     tie.close
     (tie.spec
-    word-of-requires
-    enum-known-k
-    enum-known-w
+    (λ c κs. search needs)
+    (λ c. search needs)
+    (λ c. search needs)
     add-fits
     fits-requires
     returns

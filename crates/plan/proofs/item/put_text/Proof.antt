@@ -6,15 +6,6 @@ use borrow.Author.Needs.{needs}
 use Rattle.plan.proofs.item.put_text.Statement.{statement}
 use Rattle.plan.proofs.item.put_text.Tie as tie
 
-add-fits : tie.Need-add-fits
-add-fits c = search needs
-
-add-fits-2 : tie.Need-add-fits-2
-add-fits-2 c = search needs
-
-add-fits-3 : tie.Need-add-fits-3
-add-fits-3 c = search needs
-
 fits-requires : tie.Need-fits-requires
 fits-requires c κs = sound-length (c .args .s) (c .pre .0)
 
@@ -31,4 +22,4 @@ returns-2 c =
 pub put-text-spec : {M : Type 1} → statement M
 put-text-spec =
     tie.close
-    (tie.spec add-fits add-fits-2 add-fits-3 fits-requires returns returns-2)
+    (tie.spec (λ c. search needs) (λ c. search needs) (λ c. search needs) fits-requires returns returns-2)

@@ -4,18 +4,6 @@ use borrow.Author.Needs.{needs}
 use Rattle.plan.proofs.text.text_at.Statement.{statement}
 use Rattle.plan.proofs.text.text_at.Tie as tie
 
-field-at-requires : tie.Need-field-at-requires
-field-at-requires c κs = search needs
-
-enum-known-v : tie.Need-enum-known-v
-enum-known-v c = search needs
-
-text-of-requires : tie.Need-text-of-requires
-text-of-requires c κs = search needs
-
-enum-told : tie.Need-enum-told
-enum-told c = search needs
-
 returns : tie.Need-returns
 returns c =
     let f = c .before .before .before .before in
@@ -31,4 +19,4 @@ returns-2 c =
 pub text-at-spec : {M : Type 1} → statement M
 text-at-spec =
     tie.close
-    (tie.spec field-at-requires enum-known-v text-of-requires enum-told returns returns-2)
+    (tie.spec (λ c κs. search needs) (λ c. search needs) (λ c κs. search needs) (λ c. search needs) returns returns-2)

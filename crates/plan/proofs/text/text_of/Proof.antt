@@ -5,14 +5,8 @@ use borrow.Author.Needs.{needs}
 use Rattle.plan.proofs.text.text_of.Statement.{statement}
 use Rattle.plan.proofs.text.text_of.Tie as tie
 
-enum-known-v : tie.Need-enum-known-v
-enum-known-v c = search needs
-
 returns : tie.Need-returns
 returns c = (refl, no-bytes (c .before .args .v) (c .match .keys2))
 
-returns-2 : tie.Need-returns-2
-returns-2 c = search needs
-
 pub text-of-spec : {M : Type 1} → statement M
-text-of-spec = tie.close (tie.spec enum-known-v returns returns-2)
+text-of-spec = tie.close (tie.spec (λ c. search needs) returns (λ c. search needs))

@@ -39,9 +39,6 @@ item c =
     let x = c .before .before in
     sym (x .before .before .next .ensures) ∙ ap nextOf (x .i .given .1) ∙ ap (λ (o : Op). accepted (some (o, x .i .given .0 .1 .0 .at))) (sym (c .op .ensures))
 
-new-requires : tie.Need-new-requires Inv-loop μ-loop
-new-requires c κs = tt
-
 loop-holds : tie.Need-loop-holds Inv-loop μ-loop
 loop-holds c = passing-none _ (c .new .ensures) (c .before .before .before .before .pre .1 .0)
 
@@ -50,9 +47,6 @@ next-requires c κs = c .before .before .before .before .before .pre .0
 
 enum-told : tie.Need-enum-told Inv-loop μ-loop
 enum-told c = c .match .keys1
-
-offset-in-requires : tie.Need-offset-in-requires Inv-loop μ-loop
-offset-in-requires c κs = tt
 
 same-length : tie.Need-same-length Inv-loop μ-loop
 same-length c = let l = c .before .before .before .before in passing-length (l .loop .inv) (entry l .pre .1 .1)
@@ -79,9 +73,6 @@ returns-2 c =
 enum-known-i : tie.Need-enum-known-i Inv-loop μ-loop
 enum-known-i c = c .match .keys3
 
-op-requires : tie.Need-op-requires Inv-loop μ-loop
-op-requires c κs = tt
-
 read-op-requires : tie.Need-read-op-requires Inv-loop μ-loop
 read-op-requires c κs =
     let l = looped c in
@@ -104,9 +95,6 @@ returns-3 c =
 
 enum-known-t : tie.Need-enum-known-t Inv-loop μ-loop
 enum-known-t c = c .match2 .keys2
-
-parts-requires : tie.Need-parts-requires Inv-loop μ-loop
-parts-requires c κs = tt
 
 loop-less : tie.Need-loop-less Inv-loop μ-loop
 loop-less c =
@@ -144,9 +132,6 @@ size-of-requires c κs =
 sum-requires : tie.Need-sum-requires Inv-loop μ-loop
 sum-requires c κs = c .size-of .ensures .1
 
-at-offset-requires : tie.Need-at-offset-requires Inv-loop μ-loop
-at-offset-requires c κs = tt
-
 loop-less-2 : tie.Need-loop-less-2 Inv-loop μ-loop
 loop-less-2 c =
     let o = c .before .before .before .before .before .before .before .before in
@@ -176,30 +161,30 @@ pass-spec =
     (tie.spec
     Inv-loop
     μ-loop
-    new-requires
+    (λ c κs. tt)
     loop-holds
     next-requires
     enum-told
-    offset-in-requires
+    (λ c κs. tt)
     same-length
     returns
     enum-known-k
     same-length-2
     returns-2
     enum-known-i
-    op-requires
+    (λ c κs. tt)
     read-op-requires
     enum-known-k-2
     same-length-3
     returns-3
     enum-known-t
-    parts-requires
+    (λ c κs. tt)
     loop-less
     loop-again
     enum-known-r
     put-reading-requires
     size-of-requires
     sum-requires
-    at-offset-requires
+    (λ c κs. tt)
     loop-less-2
     loop-again-2)

@@ -12,17 +12,11 @@ use borrow.Author.Needs.{needs}
 use Rattle.read.proofs.pass.put_reading.Statement.{statement}
 use Rattle.read.proofs.pass.put_reading.Tie as tie
 
-enum-known-r : tie.Need-enum-known-r
-enum-known-r c = search needs
-
 put-integer-requires : tie.Need-put-integer-requires
 put-integer-requires c κs =
     let x = c .before .before in
     let s = x .before .before .before .before in
     room-for (s .args .at) (s .args .list .now) (x .r .given .1) (s .pre .0)
-
-enum-known-r-2 : tie.Need-enum-known-r-2
-enum-known-r-2 c = search needs
 
 put-float-requires : tie.Need-put-float-requires
 put-float-requires c κs =
@@ -30,18 +24,12 @@ put-float-requires c κs =
     let s = x .before .before .before .before in
     room-for (s .args .at) (s .args .list .now) (x .r2 .given .1) (s .pre .0)
 
-enum-known-r-3 : tie.Need-enum-known-r-3
-enum-known-r-3 c = search needs
-
 put-text-requires : tie.Need-put-text-requires
 put-text-requires c κs =
     let x = c .before .before in
     let s = x .before .before .before .before in
     let room = room-for (s .args .at) (s .args .list .now) (x .r3 .given .1) (s .pre .0) in
     (omega (arith, room), text-inside (s .args .«data» .now) (x .r3 .given .1) (s .pre .1))
-
-same-length : tie.Need-same-length
-same-length c = search needs
 
 returns : tie.Need-returns
 returns c =
@@ -51,17 +39,11 @@ returns c =
     field-put (s .args .«data» .now) _ (s .args .list .now) (s .args .at) (x .r .given .1)
     (c .before .before .put-integer .ensures ∙ ap (λ (y : ℤ). paste (s .args .list .now) (s .args .at) (listOf (integer y ∷ [])) 11) z)
 
-same-length-2 : tie.Need-same-length-2
-same-length-2 c = search needs
-
 returns-2 : tie.Need-returns-2
 returns-2 c =
     let x = c .before .before .before .before .before in
     let s = x .before .before .before .before in
     field-put (s .args .«data» .now) _ (s .args .list .now) (s .args .at) (x .r2 .given .1) (c .before .before .put-float .ensures)
-
-same-length-3 : tie.Need-same-length-3
-same-length-3 c = search needs
 
 returns-3 : tie.Need-returns-3
 returns-3 c =
@@ -73,15 +55,15 @@ pub put-reading-spec : {M : Type 1} → statement M
 put-reading-spec =
     tie.close
     (tie.spec
-    enum-known-r
+    (λ c. search needs)
     put-integer-requires
-    enum-known-r-2
+    (λ c. search needs)
     put-float-requires
-    enum-known-r-3
+    (λ c. search needs)
     put-text-requires
-    same-length
+    (λ c. search needs)
     returns
-    same-length-2
+    (λ c. search needs)
     returns-2
-    same-length-3
+    (λ c. search needs)
     returns-3)

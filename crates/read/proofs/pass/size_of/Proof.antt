@@ -7,23 +7,8 @@ use borrow.Author.Needs.{needs}
 use Rattle.read.proofs.pass.size_of.Statement.{statement}
 use Rattle.read.proofs.pass.size_of.Tie as tie
 
-enum-told : tie.Need-enum-told
-enum-told c = search needs
-
-enum-told-2 : tie.Need-enum-told-2
-enum-told-2 c = search needs
-
-enum-known-r : tie.Need-enum-known-r
-enum-known-r c = search needs
-
 add-result : tie.Need-add-result
 add-result c = omega (arith, text-short (c .before .r .given .1) (c .before .before .before .pre))
-
-returns : tie.Need-returns
-returns c = search needs
-
-returns-2 : tie.Need-returns-2
-returns-2 c = search needs
 
 returns-3 : tie.Need-returns-3
 returns-3 c = (ap sizeOf (sym (c .before .r .given .1)), omega (arith, text-short (c .before .r .given .1) (c .before .before .before .pre)))
@@ -32,10 +17,10 @@ pub size-of-spec : {M : Type 1} → statement M
 size-of-spec =
     tie.close
     (tie.spec
-    enum-told
-    enum-told-2
-    enum-known-r
+    (λ c. search needs)
+    (λ c. search needs)
+    (λ c. search needs)
     add-result
-    returns
-    returns-2
+    (λ c. search needs)
+    (λ c. search needs)
     returns-3)

@@ -15,14 +15,8 @@ put-zeros-requires c κs = let s = c .before .before .before in omega (arith, s 
 add-put : tie.Need-add-put
 add-put c = let s = c .before .before .before .before .before .before .before in omega (arith, s .pre (not-false (s .args .put) (c .before .before .before .before .before .if1 .left)))
 
-fill-requires : tie.Need-fill-requires
-fill-requires c κs = search needs
-
 put-requires : tie.Need-put-requires
 put-requires c κs = let s = c .before .before .before .before .before .before .before .before in omega (arith, s .pre (not-false (s .args .put) (c .before .before .before .before .before .before .if1 .left)))
-
-same-length : tie.Need-same-length
-same-length c = search needs
 
 returns-2 : tie.Need-returns-2
 returns-2 c =
@@ -36,4 +30,4 @@ returns-2 c =
 pub emit-number-spec : {M : Type 1} → statement M
 emit-number-spec =
     tie.close
-    (tie.spec returns put-zeros-requires add-put fill-requires put-requires same-length returns-2)
+    (tie.spec returns put-zeros-requires add-put (λ c κs. search needs) put-requires (λ c. search needs) returns-2)

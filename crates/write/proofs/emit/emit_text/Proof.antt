@@ -47,9 +47,6 @@ add-put-zeros-3 c = omega (arith, room (c .before .before .before .before .befor
 put-zeros-requires-2 : tie.Need-put-zeros-requires-2
 put-zeros-requires-2 c κs = omega (arith, room (c .before .before .before .before .before .before .before .before .before .before .before))
 
-same-length : tie.Need-same-length
-same-length c = search needs
-
 returns-2 : tie.Need-returns-2
 returns-2 c =
     let z = c .before .before .before .before .before .before .before .before .before .before .before .before .before .before in
@@ -77,5 +74,5 @@ emit-text-spec =
     add-put-zeros-2
     add-put-zeros-3
     put-zeros-requires-2
-    same-length
+    (λ c. search needs)
     returns-2)

@@ -15,23 +15,8 @@ plan c e = as-plan (planned _ _ _ _ (c .before .before .before .before .pre .1 .
 plan-of-requires : tie.Need-plan-of-requires
 plan-of-requires c κs = let s = c .before .before .before in (s .pre .0, (s .pre .1 .0, s .pre .1 .1 .1 .1 .0))
 
-enum-known-k : tie.Need-enum-known-k
-enum-known-k c = search needs
-
-enum-told : tie.Need-enum-told
-enum-told c = search needs
-
-enum-known-x : tie.Need-enum-known-x
-enum-known-x c = search needs
-
-set-requires : tie.Need-set-requires
-set-requires c κs = search needs
-
 past-requires : tie.Need-past-requires
 past-requires c κs = c .before .before .before .before .before .before .before .before .pre .1 .1 .0
-
-enum-known-n : tie.Need-enum-known-n
-enum-known-n c = search needs
 
 emit-zeros-requires : tie.Need-emit-zeros-requires
 emit-zeros-requires c κs =
@@ -46,9 +31,6 @@ further-requires c κs =
 
 past-requires-2 : tie.Need-past-requires-2
 past-requires-2 c κs = c .before .before .before .before .before .before .before .before .before .before .before .before .pre .1 .1 .0
-
-enum-known-n-2 : tie.Need-enum-known-n-2
-enum-known-n-2 c = search needs
 
 emit-number-requires : tie.Need-emit-number-requires
 emit-number-requires c κs =
@@ -66,9 +48,6 @@ past-value-requires c κs =
     let x = c .before .before .before .before .before in
     let s = x .before .before .before .before .before .before in
     (s .pre .1 .1 .0, (s .pre .1 .1 .1 .0, (plan (x .before .before) (x .n2 .given .1)) .says .room))
-
-enum-known-n-3 : tie.Need-enum-known-n-3
-enum-known-n-3 c = search needs
 
 emit-text-requires : tie.Need-emit-text-requires
 emit-text-requires c κs =
@@ -118,9 +97,6 @@ returns-3 c =
     let a = x .before .before .before .before .before .before .args in
     (moved-set h (c .past .ensures ∙ ap (passed (a .p)) (c .before .set .ensures)), none-put (a .put) (a .out .now) (a .w) (h .says))
 
-same-length : tie.Need-same-length
-same-length c = search needs
-
 returns-4 : tie.Need-returns-4
 returns-4 c =
     let x = c .before .before .before .before .before .before .before in
@@ -128,18 +104,12 @@ returns-4 c =
     let a = x .before .before .before .before .before .before .args in
     (moved-zeros h (c .past2 .ensures ∙ ap (passed (a .p)) (c .before .further .ensures)), zeros-put h (a .put) (a .out .now) (a .w) (c .before .before .before .before .emit-zeros .ensures))
 
-same-length-2 : tie.Need-same-length-2
-same-length-2 c = search needs
-
 returns-5 : tie.Need-returns-5
 returns-5 c =
     let x = c .before .before .before .before .before .before in
     let v = number-put (plan (x .before .before) (x .n2 .given .1)) in
     let a = x .before .before .before .before .before .before .args in
     (moved-value v (c .past-value .ensures), value-bytes-put v (a .put) (a .out .now) (a .w) (c .before .before .before .emit-number .ensures))
-
-same-length-3 : tie.Need-same-length-3
-same-length-3 c = search needs
 
 returns-6 : tie.Need-returns-6
 returns-6 c =
@@ -153,20 +123,20 @@ advance-spec =
     tie.close
     (tie.spec
     plan-of-requires
-    enum-known-k
-    enum-told
-    enum-known-x
-    set-requires
+    (λ c. search needs)
+    (λ c. search needs)
+    (λ c. search needs)
+    (λ c κs. search needs)
     past-requires
-    enum-known-n
+    (λ c. search needs)
     emit-zeros-requires
     further-requires
     past-requires-2
-    enum-known-n-2
+    (λ c. search needs)
     emit-number-requires
     add-past-value
     past-value-requires
-    enum-known-n-3
+    (λ c. search needs)
     emit-text-requires
     add-past-value-2
     add-past-value-3
@@ -175,9 +145,9 @@ advance-spec =
     returns
     returns-2
     returns-3
-    same-length
+    (λ c. search needs)
     returns-4
-    same-length-2
+    (λ c. search needs)
     returns-5
-    same-length-3
+    (λ c. search needs)
     returns-6)

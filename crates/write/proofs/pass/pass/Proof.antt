@@ -27,9 +27,6 @@ item c =
     let i = c .before .before .before in
     sym (i .before .before .next .ensures) ∙ ap nextOf (i .item .given .1) ∙ ap (λ (o : Op). accepted (some (o, i .item .given .0 .1 .0 .at))) (sym (c .op .ensures))
 
-new-requires : tie.Need-new-requires Inv-loop μ-loop
-new-requires c κs = tt
-
 loop-holds : tie.Need-loop-holds Inv-loop μ-loop
 loop-holds c = let s = c .before .before .before .before in (passing-none _ _ _ _ _ _ _ (c .new .ensures) (s .pre .1 .0) (s .pre .1 .1 .0), refl)
 
@@ -64,9 +61,6 @@ returns-2 c =
 enum-known-item : tie.Need-enum-known-item Inv-loop μ-loop
 enum-known-item c = c .match .keys3
 
-op-requires : tie.Need-op-requires Inv-loop μ-loop
-op-requires c κs = tt
-
 sub-advance : tie.Need-sub-advance Inv-loop μ-loop
 sub-advance c = passing-length (c .before .before .before .before .before .before .before .before .loop .inv .0)
 
@@ -80,9 +74,6 @@ advance-requires c κs =
 
 enum-known-k-2 : tie.Need-enum-known-k-2 Inv-loop μ-loop
 enum-known-k-2 c = c .match2 .keys1
-
-same-length-3 : tie.Need-same-length-3 Inv-loop μ-loop
-same-length-3 c = search needs
 
 returns-3 : tie.Need-returns-3 Inv-loop μ-loop
 returns-3 c =
@@ -123,7 +114,7 @@ pass-spec =
     (tie.spec
     Inv-loop
     μ-loop
-    new-requires
+    (λ c κs. tt)
     loop-holds
     next-requires
     enum-told
@@ -134,11 +125,11 @@ pass-spec =
     same-length-2
     returns-2
     enum-known-item
-    op-requires
+    (λ c κs. tt)
     sub-advance
     advance-requires
     enum-known-k-2
-    same-length-3
+    (λ c. search needs)
     returns-3
     enum-told-2
     loop-less

@@ -6,17 +6,8 @@ use borrow.Author.Needs.{needs}
 use Rattle.write.proofs.pass.past_value.Statement.{statement}
 use Rattle.write.proofs.pass.past_value.Tie as tie
 
-further-requires : tie.Need-further-requires
-further-requires c κs = search needs
-
-add-t5 : tie.Need-add-t5
-add-t5 c = search needs
-
-add-t6 : tie.Need-add-t6
-add-t6 c = search needs
-
 returns : tie.Need-returns
 returns c = ap (λ (t : State). record { state = t; at = c .before .before .before .args .at; used = c .before .before .before .args .p .used + 1; items = c .before .before .before .args .p .items + 1 }) (c .before .before .further .ensures)
 
 pub past-value-spec : {M : Type 1} → statement M
-past-value-spec = tie.close (tie.spec further-requires add-t5 add-t6 returns)
+past-value-spec = tie.close (tie.spec (λ c κs. search needs) (λ c. search needs) (λ c. search needs) returns)

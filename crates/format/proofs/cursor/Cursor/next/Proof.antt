@@ -19,24 +19,6 @@ use Rattle.format.proofs.cursor.Cursor.next.Tie as tie
 returns : tie.Need-returns
 returns c = next-end (tableAt (now (c .before .before .args .table))) (now (c .before .before .args .format)) (c .before .before .args .self .at) (c .if1 .taken)
 
-shared-slice-read-entry : tie.Need-shared-slice-read-entry
-shared-slice-read-entry c = search needs
-
-entry-requires : tie.Need-entry-requires
-entry-requires c κs = search needs
-
-add-i : tie.Need-add-i
-add-i c = search needs
-
-operand-at-requires : tie.Need-operand-at-requires
-operand-at-requires c κs = search needs
-
-enum-known-k : tie.Need-enum-known-k
-enum-known-k c = search needs
-
-enum-known-n : tie.Need-enum-known-n
-enum-known-n c = search needs
-
 add-t17 : tie.Need-add-t17
 add-t17 c =
     let b = c .before .before .before in
@@ -68,12 +50,12 @@ next-spec =
     tie.close
     (tie.spec
     returns
-    shared-slice-read-entry
-    entry-requires
-    add-i
-    operand-at-requires
-    enum-known-k
-    enum-known-n
+    (λ c. search needs)
+    (λ c κs. search needs)
+    (λ c. search needs)
+    (λ c κs. search needs)
+    (λ c. search needs)
+    (λ c. search needs)
     add-t17
     returns-2
     returns-3)

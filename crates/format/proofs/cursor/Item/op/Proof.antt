@@ -6,14 +6,8 @@ use Rattle.format.proofs.Entries.{at-fixed, at-plain, at-signed, at-uns
 use Rattle.format.proofs.cursor.Item.op.Statement.{statement}
 use Rattle.format.proofs.cursor.Item.op.Tie as tie
 
-kind-of-requires : tie.Need-kind-of-requires
-kind-of-requires c κs = search needs
-
 returns : tie.Need-returns
 returns c = rw (at-fixed _ (c .before .if1 .taken), c .kind-of .ensures)
-
-plain-requires : tie.Need-plain-requires
-plain-requires c κs = search needs
 
 returns-2 : tie.Need-returns-2
 returns-2 c = rw (at-plain _ (c .before .before .if1 .left) (c .before .if2 .taken)) (c .plain .ensures ∙ plain-op (c .before .before .before .args .self .entry) (c .before .before .before .args .self .operand))
@@ -40,9 +34,9 @@ pub op-spec : {M : Type 1} → statement M
 op-spec =
     tie.close
     (tie.spec
-    kind-of-requires
+    (λ c κs. search needs)
     returns
-    plain-requires
+    (λ c κs. search needs)
     returns-2
     returns-3
     returns-4
