@@ -17,7 +17,7 @@ use Rattle.definition.specs.Calls.{into, pack, recordOf, continuedOf, pa
 use Rattle.definition.specs.Claims.{All, LongEnough, gives, outputOf, writtenFrom, keep, keptFrom, hasOpen, ShortChars, integerForJ, Continuing}
 use Rattle.definition.specs.declared.State.{State}
 use Rattle.definition.specs.declared.Continued.{Continued}
-use Rattle.definition.proofs.Answers.{Bound, same, bound}
+use Rattle.definition.proofs.Answers.{same, bound}
 use Rattle.definition.proofs.Lists.{values-held, values-of}
 use Rattle.definition.proofs.Ops.{options-sizes, ops-valid}
 use Rattle.definition.proofs.ReadBack.{Given, kept-took, write-again, kept-held}

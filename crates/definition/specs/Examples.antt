@@ -502,15 +502,19 @@ abbrev traced : Field → ℕ → List ℕ → Value → Read
 traced f o s v = record { field = f; start = offset o; bytes = s; value = v }
 
 abbrev traces : List (Checked (List Read × Position) × Checked (List Read × Position))
-traces =
-    (read options (bytes ">!4bis2zxc1c0") (9 ∷ 1 ∷ 9 ∷ 9 ∷ 0 ∷ 0 ∷ 0 ∷ 2 ∷ 0 ∷ 1 ∷ 0x41 ∷ 0x42 ∷ 0 ∷ 9 ∷ 0x43 ∷ 9 ∷ []) (pos 2), accepted
-        (traced (Number SmallSigned 1) 1 (1 ∷ []) (int 1)
+traces = (
+  read options (bytes ">!4bis2zxc1c0") (9 ∷ 1 ∷ 9 ∷ 9 ∷ 0 ∷ 0 ∷ 0 ∷ 2 ∷ 0 ∷ 1 ∷ 0x41 ∷ 0x42 ∷ 0 ∷ 9 ∷ 0x43 ∷ 9 ∷ []) (pos 2),
+  accepted (
+    traced (Number SmallSigned 1) 1 (1 ∷ []) (int 1)
         ∷ traced (Number Signed 4) 4 (0 ∷ 0 ∷ 0 ∷ 2 ∷ []) (int 2)
         ∷ traced (Counted 2) 8 (0 ∷ 1 ∷ 0x41 ∷ []) (str "A")
         ∷ traced ZeroEnded 11 (0x42 ∷ 0 ∷ []) (str "B")
         ∷ traced (Chars 1) 14 (0x43 ∷ []) (str "C")
         ∷ traced (Chars 0) 15 [] (str "")
-        ∷ [], positionOf (offset 15)))
+        ∷ [],
+    positionOf (offset 15),
+  ),
+)
     ∷ []
 
 -- "z gives 19 and never 17; s reads its length (17, 18), then its text (17, 20)"
