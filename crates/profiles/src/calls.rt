@@ -21,14 +21,6 @@ use write::pack_continued;
 // What every byte of a result buffer is before a call.
 pub const FILL: u8 = 238;
 
-pub fn start_state() -> State {
-    State {
-        big: false,
-        limit: 1,
-        length: 0,
-    }
-}
-
 // Says so if a byte of a buffer from a place on has changed.
 fn print_changes(out: &[u8], from: u64) {
     if !is_filled(out, from as usize, FILL) {

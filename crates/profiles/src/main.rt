@@ -14,12 +14,12 @@
 mod calls;
 mod random;
 
+use align::start;
 use bytes::scan::find;
 use calls::bound_of;
 use calls::continued;
 use calls::measure;
 use calls::read;
-use calls::start_state;
 use calls::state_of;
 use calls::write;
 use definition::State;
@@ -37,7 +37,7 @@ fn answer_two(call: u8, format: &[u8], list: &[u8], s: &[u8], at: usize, state: 
     match call {
         b'w' => write(format, list, s, at),
         b'r' => read(format, list, s, at),
-        b'f' => return continued(format, list, start_state()),
+        b'f' => return continued(format, list, start()),
         b'n' => return continued(format, list, state),
         _ => {}
     }
@@ -84,7 +84,7 @@ fn line(s: &[u8], at: usize, end: usize, state: State) -> State {
 
 fn run(s: &[u8]) {
     let mut at = 0;
-    let mut state = start_state();
+    let mut state = start();
     while at < s.len() {
         let end = find(s, at, s.len(), b'\n');
         state = line(s, at, end, state);
