@@ -1,5 +1,5 @@
 -- What a number reads is what the definition decodes.
-use Prim.Native.Nat.{ℕ, _+_, _-_, _≤_, _<_}
+use Prim.Native.Nat.{ℕ, _+_, _-_, _^_, _≤_, _<_}
 use native.Mathlib.Omega.{arith}
 use mathlib.Core.Path.{_≡_, refl, sym, ap, _∙_, subst}
 use mathlib.Core.Bool.{Bool}
@@ -7,6 +7,10 @@ use mathlib.Core.List.{List, [], _∷_}
 use lib.Dec.{T, eqb→eq}
 use lib.IntN.{ℤ}
 use lib.ListN.{length, drop, length-drop}
+use lib.Signed.{mag}
+use mir.Syntax.{w64}
+use mir.Val.{toZ, ofZ}
+use mir.Facts.{toZ-ofZ}
 use types.Run.{OneOf, miss}
 use denote.Enum.Declared.{tagOf}
 use borrow.Author.Tests.{lt-leb}
@@ -30,6 +34,10 @@ use Rattle.fetch.specs.declared.decode.Reading.{Reading}
 use Rattle.fetch.specs.declared.decode.Reading.the-variants.{Integer, Float}
 use Rattle.fetch.specs.declared.decode.Decoded.{Decoded}
 use Rattle.fetch.specs.declared.decode.Decoded.the-variants as Decoded
+
+-- an integer that was bound from an enum
+pub same-integer : (z : ℤ) → mag z < 2 ^ 63 → toZ w64 (ofZ w64 z) ≡ z
+same-integer z h = toZ-ofZ (record { sfits = h })
 
 pub bind-bind : {A B C : Type 0} (c : Checked A) (f : A → Checked B) (g : B → Checked C) → ((c >>= f) >>= g) ≡ (c >>= λ a. f a >>= g)
 bind-bind (refused k) f g = refl

@@ -1,8 +1,7 @@
 -- `signed` meets its contract: the integer of the bytes, or 18.
-use mir.Facts.{toZ-ofZ}
 use mathlib.Core.Path.{sym, ap, _∙_}
 use Rattle.coder.specs.Numbers.{signedOf}
-use Rattle.fetch.proofs.Numbers.{signed-read, signed-wide}
+use Rattle.fetch.proofs.Numbers.{same-integer, signed-read, signed-wide}
 use borrow.Author.Needs.{needs}
 use Rattle.fetch.proofs.decode.signed.Statement.{statement}
 use Rattle.fetch.proofs.decode.signed.Tie as tie
@@ -10,7 +9,7 @@ use Rattle.fetch.proofs.decode.signed.Tie as tie
 returns : tie.Need-returns
 returns c =
     let z = c .before in
-    signed-read _ _ _ _ (toZ-ofZ {z = z .z .given .0 .0} (record { sfits = c .known-told .given .0 .1 }))
+    signed-read _ _ _ _ (same-integer (z .z .given .0 .0) (c .known-told .given .0 .1))
     (z .before .before .before .before .pre)
     (sym (ap signedOf (z .z .given .1)) ∙ z .before .before .get-signed .ensures)
 
