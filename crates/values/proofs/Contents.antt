@@ -1,7 +1,7 @@
 -- The field at an offset, by its bytes: its tag, its length n and its content.
 use Prim.Native.Nat.{ℕ, _+_, _^_, _≤_, _<_}
 use mathlib.Core.Path.{_≡_, refl, sym, ap, _∙_, subst}
-use mathlib.Core.Bool.{Bool, true, false, cond}
+use mathlib.Core.Bool.{Bool, true, false, cond, _||_}
 use mathlib.Core.List.{List}
 use mathlib.Core.Option.{some}
 use native.Mathlib.Nat.{add-assoc}
@@ -19,28 +19,24 @@ use Rattle.definition.specs.Lists.{bigTotal, valueOf, fieldOf, values}
 use Rattle.definition.proofs.Answers.{true-not-false}
 use Rattle.values.proofs.Fields.{refused-values}
 use Rattle.values.specs.Loading.{Loaded}
-use Rattle.values.specs.Meaning.{isAccepted, meaning, Proper, Inside, FloatRead, placed, fieldAt, sizeAt, Complete, suits, Whole, ValueRead, FieldRead}
+use Rattle.values.specs.Meaning.{isAccepted, meaning, Proper, Inside, FloatRead, Standing, placed, fieldAt, sizeAt, Complete, numeric, suits, FieldRead}
 use Rattle.values.specs.declared.Value.{Value}
 use Rattle.values.specs.declared.Value.the-variants.{Integer, Text, Other}
 use Rattle.values.specs.declared.Field.the-variants.{Found, End}
 
 -- ---- which contents suit a tag
 module _ (t n : ℕ) where
-  pub suits-text : t ≡ 3 → true ≡ suits t n
-  suits-text e = rw e
+  not-other : numeric t ≡ true → eqb t 0 ≡ false
+  not-other e = ne-eqb t 0 (λ (z : t ≡ 0). true-not-false (sym e ∙ rw z))
+
+  pub suits-number : numeric t ≡ true → eqb n 8 ≡ suits t n
+  suits-number e = rw (not-other e, e)
 
   pub suits-other : t ≡ 0 → eqb n 0 ≡ suits t n
   suits-other e = rw e
 
-  pub suits-number : (t ≡ 0 → ⊥) → t ≤ 2 → eqb n 8 ≡ suits t n
-  suits-number z h = rw (ne-eqb t 0 z) (go (eqb t 1) refl)
-    where
-      go : (p : Bool) → eqb t 1 ≡ p → eqb n 8 ≡ cond p (eqb n 8) (cond (eqb t 2) (eqb n 8) (eqb t 3))
-      go true e = refl
-      go false e = rw (eq-eqb t 2 (omega (arith, eqb-false t 1 e)))
-
-  pub suits-none : (t ≡ 3 → ⊥) → 2 < t → false ≡ suits t n
-  suits-none z h = rw (ne-eqb t 0 (λ (e : t ≡ 0). omega arith), ne-eqb t 1 (λ (e : t ≡ 1). omega arith), ne-eqb t 2 (λ (e : t ≡ 2). omega arith), ne-eqb t 3 z)
+  pub suits-text : numeric t ≡ false → (t ≡ 0 → ⊥) → eqb t 3 ≡ suits t n
+  suits-text e none = rw (ne-eqb t 0 none, e)
 
 -- ---- a field that is cut short
 module _ (l : List ℕ) (at : ℕ) where
@@ -96,109 +92,88 @@ module _ (l : List ℕ) (at n : ℕ) (complete : Complete l at n) where
       go (refused k) = refl
       go (accepted v) = ap (λ (k : ℕ). some (accepted (v, k))) (omega arith)
 
-  -- what the tag and the length decide, for each answer of the tests
-  abbrev decided : Bool → Bool → Bool → Bool → Bool → Bool → Checked definition.Value
-  decided t0 t1 t2 t3 n0 n8 =
-      cond t0 (require n0 21 >> accepted other)
-      (cond t1 (require n8 21 >> accepted (integer (signed 8 (bigTotal content))))
-      (cond t2 (require n8 21 >> accepted (float (bigTotal content)))
-      (cond t3 (accepted (text content)) (refused 21))))
+  -- whether the content suits the tag decides whether the field has a value
+  abbrev Told : Bool → Standing → Type 0
+  Told true f = (w : definition.Value) × (some (accepted (w, at + 3 + n)) ≡ f)
+  Told false f = some (refused 21) ≡ f
 
-  pub unsuited : suits t n ≡ false → some (refused 21) ≡ fieldAt l at
-  unsuited e = sym (all-there ∙ rw length-content (go (eqb t 0) (eqb t 1) (eqb t 2) (eqb t 3) (eqb n 0) (eqb n 8) e))
+  pub by-suits : Told (suits t n) (fieldAt l at)
+  by-suits = rw (all-there, length-content) (go (eqb t 0) (eqb t 1) (eqb t 2) (eqb t 3) (eqb n 0) (eqb n 8))
     where
-      go : (t0 t1 t2 t3 n0 n8 : Bool) → cond t0 n0 (cond t1 n8 (cond t2 n8 t3)) ≡ false → some (followed (at + 3 + n) (decided t0 t1 t2 t3 n0 n8)) ≡ some (refused 21)
-      go true t1 t2 t3 n0 n8 e = rw e
-      go false true t2 t3 n0 n8 e = rw e
-      go false false true t3 n0 n8 e = rw e
-      go false false false t3 n0 n8 e = rw e
+      decided : Bool → Bool → Bool → Bool → Bool → Bool → Checked definition.Value
+      decided t0 t1 t2 t3 n0 n8 =
+          cond t0 (require n0 21 >> accepted other)
+          (cond t1 (require n8 21 >> accepted (integer (signed 8 (bigTotal content))))
+          (cond t2 (require n8 21 >> accepted (float (bigTotal content)))
+          (cond t3 (accepted (text content)) (refused 21))))
 
-  -- a field of a suitable content has some value
-  pub suited : suits t n ≡ true → (w : definition.Value) × (some (accepted (w, at + 3 + n)) ≡ fieldAt l at)
-  suited e = let g = go (eqb t 0) (eqb t 1) (eqb t 2) (eqb t 3) (eqb n 0) (eqb n 8) e in (g .0, sym (all-there ∙ rw length-content (g .1)))
-    where
-      go : (t0 t1 t2 t3 n0 n8 : Bool) → cond t0 n0 (cond t1 n8 (cond t2 n8 t3)) ≡ true → (w : definition.Value) × (some (followed (at + 3 + n) (decided t0 t1 t2 t3 n0 n8)) ≡ some (accepted (w, at + 3 + n)))
-      go true t1 t2 t3 n0 n8 e = (other, rw e)
-      go false true t2 t3 n0 n8 e = (integer (signed 8 (bigTotal content)), rw e)
-      go false false true t3 n0 n8 e = (float (bigTotal content), rw e)
-      go false false false t3 n0 n8 e = (text content, rw e)
+      go : (t0 t1 t2 t3 n0 n8 : Bool) → Told (cond t0 n0 (cond (t1 || t2) n8 t3)) (some (followed (at + 3 + n) (decided t0 t1 t2 t3 n0 n8)))
+      go true t1 t2 t3 true n8 = (other, refl)
+      go true t1 t2 t3 false n8 = refl
+      go false true t2 t3 n0 true = (integer (signed 8 (bigTotal content)), refl)
+      go false true t2 t3 n0 false = refl
+      go false false true t3 n0 true = (float (bigTotal content), refl)
+      go false false true t3 n0 false = refl
+      go false false false true n0 n8 = (text content, refl)
+      go false false false false n0 n8 = refl
 
--- ---- the value of a whole field
-module _ (l : List ℕ) (at n : ℕ) (whole : Whole l at n) where
+-- ---- the field at an offset of a list that is well formed from there on
+module _ (l : List ℕ) (at : ℕ) (known : isAccepted (values (drop at l)) ≡ true) (h : at < length l) where
+  abbrev n : ℕ
+  n = sizeAt l at
+
   abbrev tag : ℕ
   tag = getD l at 0
 
-  is : (v : Value) → Proper v → Inside l v → valueOf tag (take n (drop (at + 3) l)) ≡ accepted (meaning l v) → ValueRead l at n v
-  is v p i e = record { says = sym (all-there l at n (whole .complete) ∙ rw e); proper = p; inside = i }
-
-  long : length (take n (drop (at + 3) l)) ≡ n
-  long = length-content l at n (whole .complete)
-
-  pub text-value : tag ≡ 3 → n < 256 ^ 2 → ValueRead l at n (Text (at + 3) n)
-  text-value e h = is (Text (at + 3) n) tt (whole .complete .within, omega arith) (rw e)
-
-  none-left : tag ≡ 0 → eqb n 0 ≡ true
-  none-left e = rw e at (whole .tag)
-
-  pub other-none : tag ≡ 0 → n ≡ 0
-  other-none e = eqb-true n 0 (none-left e)
-
-  pub other-value : tag ≡ 0 → ValueRead l at n Other
-  other-value e = is Other tt tt (rw (e, long, none-left e))
-
-  pub number-eight : (tag ≡ 3 → ⊥) → (tag ≡ 0 → ⊥) → n ≡ 8
-  number-eight three none = go (eqb tag 1) (eqb tag 2) (rw (ne-eqb tag 0 none, ne-eqb tag 3 three) at (whole .tag))
-    where
-      go : (p q : Bool) → cond p (eqb n 8) (cond q (eqb n 8) false) ≡ true → n ≡ 8
-      go true q e = eqb-true n 8 e
-      go false true e = eqb-true n 8 e
-      go false false e = absurd (let z : _≡_ {A = ℕ} 0 1 = cc in omega arith)
-
-  module _ (eight : n ≡ 8) (b : ℕ) (word : Loaded l (at + 3) 8 b) where
-    length-eight : eqb (length (take n (drop (at + 3) l))) 8 ≡ true
-    length-eight = eq-eqb (length (take n (drop (at + 3) l))) 8 (long ∙ eight)
-
-    number : bigTotal (take n (drop (at + 3) l)) ≡ b
-    number = ap (λ (k : ℕ). bigTotal (take k (drop (at + 3) l))) eight ∙ sym (word .is)
-
-    pub integer-value : tag ≡ 1 → ValueRead l at n (Integer (signed 8 b))
-    integer-value e = is (Integer (signed 8 b)) tt tt (rw (e, length-eight, number))
-
-    pub float-value : (tag ≡ 3 → ⊥) → (tag ≡ 0 → ⊥) → (tag ≡ 1 → ⊥) → (v : Value) → FloatRead b v → ValueRead l at n v
-    float-value three none one v f = let e = float-tag in is v (f .proper) (f .inside l) (rw (e, length-eight, number, f .says l))
-      where
-        float-tag : tag ≡ 2
-        float-tag = go (eqb tag 2) refl (rw (ne-eqb tag 0 none, ne-eqb tag 1 one, ne-eqb tag 3 three) at (whole .tag))
-          where
-            go : (q : Bool) → eqb tag 2 ≡ q → cond q (eqb n 8) false ≡ true → tag ≡ 2
-            go true d e = eqb-true tag 2 d
-            go false d e = absurd (let z : _≡_ {A = ℕ} 0 1 = cc in omega arith)
-
-module _ (l : List ℕ) (at n : ℕ) (v : Value) (whole : Whole l at n) (is : ValueRead l at n v) where
-  pub found : FieldRead l at (Found v (at + 3 + n))
-  found = record { says = is .says; sound = record { behind = omega arith; within = whole .complete .within; proper = is .proper; inside = is .inside } }
-
-  pub found-by : (next : ℕ) → at + 3 + n ≡ next → FieldRead l at (Found v next)
-  found-by next e = subst (λ (k : ℕ). FieldRead l at (Found v k)) e found
-
--- ---- the field at an offset of a list that is well formed from there on
-module _ (l : List ℕ) (at : ℕ) (known : isAccepted (values (drop at l)) ≡ true) where
   not-refused : some (refused 21) ≡ fieldAt l at → ⊥
-  not-refused e = let h = ap isAccepted (refused-values l at 21 e) in true-not-false (sym known ∙ h)
+  not-refused e = true-not-false (sym known ∙ ap isAccepted (refused-values l at 21 e))
 
-  module _ (h : at < length l) where
-    pub not-cut-short : at + 3 + sizeAt l at ≤ length l
-    not-cut-short = go (leb (at + 3 + sizeAt l at) (length l)) refl
-      where
-        go : (p : Bool) → leb (at + 3 + sizeAt l at) (length l) ≡ p → at + 3 + sizeAt l at ≤ length l
-        go true e = leb-true (at + 3 + sizeAt l at) (length l) e
-        go false e = absurd (not-refused (cut-short l at h (leb-false (at + 3 + sizeAt l at) (length l) e)))
+  pub within : at + 3 + n ≤ length l
+  within = go (leb (at + 3 + n) (length l)) refl
+    where
+      go : (p : Bool) → leb (at + 3 + n) (length l) ≡ p → at + 3 + n ≤ length l
+      go true e = leb-true (at + 3 + n) (length l) e
+      go false e = absurd (not-refused (cut-short l at h (leb-false (at + 3 + n) (length l) e)))
 
-    pub well-formed : (n : ℕ) → n ≡ sizeAt l at → Whole l at n
-    well-formed n size =
-        let complete : Complete l at n = record { within = omega (arith, size, not-cut-short); size = size } in
-        record { complete = complete; tag = go complete (suits (getD l at 0) n) refl }
-      where
-        go : Complete l at n → (p : Bool) → suits (getD l at 0) n ≡ p → p ≡ true
-        go c true e = refl
-        go c false e = absurd (not-refused (unsuited l at n c e))
+  complete : Complete l at n
+  complete = record { within = within; size = refl }
+
+  suited : suits tag n ≡ true
+  suited = go (suits tag n) (by-suits l at n complete)
+    where
+      go : (p : Bool) → Told l at n complete p (fieldAt l at) → p ≡ true
+      go true e = refl
+      go false e = absurd (not-refused e)
+
+  -- the field of a value v
+  is : (v : Value) (next : ℕ) → at + 3 + n ≡ next → Proper v → Inside l v → valueOf tag (take n (drop (at + 3) l)) ≡ accepted (meaning l v) → FieldRead l at (Found v next)
+  is v next e p i m = subst (λ (k : ℕ). FieldRead l at (Found v k)) e (record { says = sym (all-there l at n complete ∙ rw m); sound = record { behind = omega arith; within = within; proper = p; inside = i } })
+
+  pub text-field : numeric tag ≡ false → (tag ≡ 0 → ⊥) → (r : ℕ) → Loaded l (at + 1) 2 r → FieldRead l at (Found (Text (at + 3) r) (at + 3 + r))
+  text-field e none r word =
+      let three = eqb-true tag 3 (suits-text tag n e none ∙ suited) in
+      is (Text (at + 3) r) (at + 3 + r) (omega (arith, word .is)) tt (omega (arith, word .is, within), omega (arith, word .below)) (rw (three, word .is))
+
+  pub other-field : tag ≡ 0 → FieldRead l at (Found Other (at + 3))
+  other-field e =
+      let none : n ≡ 0 = eqb-true n 0 (suits-other tag n e ∙ suited) in
+      is Other (at + 3) (omega (arith, none)) tt tt (rw (e, length-content l at n complete, none))
+
+  module _ (e : numeric tag ≡ true) where
+    pub eight : n ≡ 8
+    eight = eqb-true n 8 (suits-number tag n e ∙ suited)
+
+    module _ (b : ℕ) (word : Loaded l (at + 3) 8 b) where
+      number : (v : Value) → Proper v → Inside l v → valueOf tag (take 8 (drop (at + 3) l)) ≡ accepted (meaning l v) → FieldRead l at (Found v (at + 3 + 8))
+      number v p i m = is v (at + 3 + 8) (omega (arith, eight)) p i (rw eight m)
+
+      length-eight : eqb (length (take 8 (drop (at + 3) l))) 8 ≡ true
+      length-eight = eq-eqb _ 8 (length-take-le 8 (drop (at + 3) l) (omega (arith, within, eight, length-drop (at + 3) l)))
+
+      pub integer-field : tag ≡ 1 → FieldRead l at (Found (Integer (signed 8 b)) (at + 3 + 8))
+      integer-field one = number (Integer (signed 8 b)) tt tt (rw (one, length-eight, ← word .is))
+
+      pub float-field : (tag ≡ 1 → ⊥) → (v : Value) → FloatRead b v → FieldRead l at (Found v (at + 3 + 8))
+      float-field one v f =
+          let two = eqb-true tag 2 (rw (ne-eqb tag 1 one) at e) in
+          number v (f .proper) (f .inside l) (rw (two, length-eight, f .says l, ← word .is))

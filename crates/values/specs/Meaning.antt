@@ -1,7 +1,7 @@
 -- What the code's values and fields mean, in the definition's terms.
 use Prim.Native.Nat.{ℕ, _+_, _≤_, _<_}
 use mathlib.Core.Path.{_≡_}
-use mathlib.Core.Bool.{Bool, true, false, not, cond}
+use mathlib.Core.Bool.{Bool, true, false, not, cond, _||_}
 use mathlib.Core.List.{List, [], _∷_}
 use mathlib.Core.Option.{Option, none, some}
 use lib.Dec.{T, eqb}
@@ -99,9 +99,13 @@ abbrev pub LengthRead : List ℕ → ℕ → Content → Type 0
 LengthRead l at (Content.Length n) = Complete l at n
 LengthRead l at Content.Malformed = length l < at + 3 + sizeAt l at
 
+-- the tag of a number
+abbrev pub numeric : ℕ → Bool
+numeric t = eqb t 1 || eqb t 2
+
 -- a content of n bytes suits the tag t
 abbrev pub suits : ℕ → ℕ → Bool
-suits t n = cond (eqb t 0) (eqb n 0) (cond (eqb t 1) (eqb n 8) (cond (eqb t 2) (eqb n 8) (eqb t 3)))
+suits t n = cond (eqb t 0) (eqb n 0) (cond (numeric t) (eqb n 8) (eqb t 3))
 
 -- the field at an offset of l is well formed, with a content of n bytes
 pub record Whole (l : List ℕ) (at n : ℕ) : Type 0 where
@@ -112,12 +116,6 @@ pub record Whole (l : List ℕ) (at n : ℕ) : Type 0 where
 abbrev pub ContentRead : List ℕ → ℕ → Content → Type 0
 ContentRead l at (Content.Length n) = Whole l at n
 ContentRead l at Content.Malformed = some (refused 21) ≡ fieldAt l at
-
--- r is the value of the field at an offset of l, with a content of n bytes
-pub record ValueRead (l : List ℕ) (at n : ℕ) (r : Value) : Type 0 where
-  pub says : some (accepted (meaning l r, at + 3 + n)) ≡ fieldAt l at
-  pub proper : Proper r
-  pub inside : Inside l r
 
 -- r is the field at an offset of l
 pub record FieldRead (l : List ℕ) (at : ℕ) (r : Field) : Type 0 where

@@ -2,7 +2,7 @@
 use mathlib.Core.Path.{sym, _∙_}
 use denote.Ref.{now}
 use Rattle.values.specs.Meaning.{Complete}
-use Rattle.values.proofs.Contents.{cut-short, unsuited}
+use Rattle.values.proofs.Contents.{cut-short, by-suits}
 use borrow.Author.Needs.{needs}
 use Rattle.values.proofs.content_at.Statement.{statement}
 use Rattle.values.proofs.content_at.Tie as tie
@@ -20,7 +20,7 @@ returns-3 : tie.Need-returns-3
 returns-3 c =
     let start = c .before .before .before .before .before .before .before .before .args in
     let n = c .before .before .before .before .n .given .0 .0 in
-    unsuited (now (start .list)) (start .at) n (complete (c .before .before .before)) (sym (c .before .length-suits .ensures) ∙ c .if1 .left)
+    rw (sym (c .before .length-suits .ensures) ∙ c .if1 .left) at (by-suits (now (start .list)) (start .at) n (complete (c .before .before .before)))
 
 pub content-at-spec : {M : Type 1} → statement M
 content-at-spec =

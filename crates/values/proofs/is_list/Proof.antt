@@ -7,7 +7,7 @@ use denote.Ref.{now}
 use borrow.Author.Needs.{needs}
 use Rattle.definition.specs.Lists.{valuesPast, values}
 use Rattle.values.specs.Meaning.{isAccepted, Whole}
-use Rattle.values.proofs.Contents.{suited}
+use Rattle.values.proofs.Contents.{by-suits}
 use Rattle.values.proofs.Fields.{refused-values, found-values, accepted-beginning}
 use Rattle.values.proofs.is_list.Statement.{statement}
 use Rattle.values.proofs.is_list.Tie as tie
@@ -39,7 +39,7 @@ loop-again c =
     let i = c .before .before .before .before .before .loop in
     let next = i .at + 3 + c .before .n .given .0 .0 in
     let h = whole c in
-    let f = suited l (i .at) (c .before .n .given .0 .0) (h .complete) (h .tag) in
+    let f = rw (h .tag) at (by-suits l (i .at) (c .before .n .given .0 .0) (h .complete)) in
     sym (accepted-beginning (f .0) (values (drop next l))) ∙ ap isAccepted (sym (found-values l (i .at) (f .0) next (f .1))) ∙ i .inv
 
 returns : tie.Need-returns Inv-loop μ-loop
