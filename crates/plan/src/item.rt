@@ -85,17 +85,14 @@ fn put_number(s: State, p: u64, kind: Kind, size: u64, v: Value, next: usize) ->
     }
 }
 
-// A number behind its padding: 11, 12, 13, 9.
-fn number(list: &[u8], at: usize, s: State, padded: Amount, kind: Kind, size: u64) -> Plan
-    requires { ⌜ Sound s ⌝ ∗ ⌜ isAccepted (values (drop at (now list))) ≡ true ⌝ ∗ ⌜ amountOf padded ≡ states.padding s size ⌝ ∗ ⌜ T (validSize kind size) ⌝ }
+// A number after p zeros: 11, 12, 13, 9.
+fn number(list: &[u8], at: usize, s: State, p: u64, kind: Kind, size: u64) -> Plan
+    requires { ⌜ Sound s ⌝ ∗ ⌜ isAccepted (values (drop at (now list))) ≡ true ⌝ ∗ ⌜ states.padding s size ≡ accepted p ⌝ ∗ ⌜ T (validSize kind size) ⌝ }
     ensures { λ r. ⌜ ItemAt (now (list .entry)) at s (ops.Put (fields.Number kind size)) r ⌝ }
 {
-    match padded {
-        Amount::Refused(k) => Plan::Refused(k),
-        Amount::Bytes(p) => match field_at(list, at) {
-            values::Field::Found(v, next) => put_number(s, p, kind, size, v, next),
-            values::Field::End => Plan::Refused(11),
-        },
+    match field_at(list, at) {
+        values::Field::Found(v, next) => put_number(s, p, kind, size, v, next),
+        values::Field::End => Plan::Refused(11),
     }
 }
 
@@ -111,7 +108,7 @@ fn put_text(s: State, p: u64, size: u64, start: usize, n: usize, zeros: u64, nex
 }
 
 // c after p zeros: 9, 11, 12, 15, 9.
-fn chars_after(list: &[u8], at: usize, s: State, p: u64, n: u64) -> Plan
+fn chars(list: &[u8], at: usize, s: State, p: u64, n: u64) -> Plan
     requires { ⌜ Sound s ⌝ ∗ ⌜ isAccepted (values (drop at (now list))) ≡ true ⌝ ∗ ⌜ states.padding s (states.natural (fields.Chars n)) ≡ accepted p ⌝ }
     ensures { λ r. ⌜ ItemAt (now (list .entry)) at s (ops.Put (fields.Chars n)) r ⌝ }
 {
@@ -129,19 +126,8 @@ fn chars_after(list: &[u8], at: usize, s: State, p: u64, n: u64) -> Plan
     }
 }
 
-// c: 6, then the text.
-fn chars(list: &[u8], at: usize, s: State, padded: Amount, n: u64) -> Plan
-    requires { ⌜ Sound s ⌝ ∗ ⌜ isAccepted (values (drop at (now list))) ≡ true ⌝ ∗ ⌜ amountOf padded ≡ states.padding s (states.natural (fields.Chars n)) ⌝ }
-    ensures { λ r. ⌜ ItemAt (now (list .entry)) at s (ops.Put (fields.Chars n)) r ⌝ }
-{
-    match padded {
-        Amount::Refused(k) => Plan::Refused(k),
-        Amount::Bytes(p) => chars_after(list, at, s, p, n),
-    }
-}
-
 // z after p zeros: 11, 12, 14, 9.
-fn zero_ended_after(list: &[u8], at: usize, s: State, p: u64) -> Plan
+fn zero_ended(list: &[u8], at: usize, s: State, p: u64) -> Plan
     requires { ⌜ Sound s ⌝ ∗ ⌜ isAccepted (values (drop at (now list))) ≡ true ⌝ ∗ ⌜ states.padding s (states.natural fields.ZeroEnded) ≡ accepted p ⌝ }
     ensures { λ r. ⌜ ItemAt (now (list .entry)) at s (ops.Put fields.ZeroEnded) r ⌝ }
 {
@@ -157,17 +143,6 @@ fn zero_ended_after(list: &[u8], at: usize, s: State, p: u64) -> Plan
     }
 }
 
-// z: 6, then the text.
-fn zero_ended(list: &[u8], at: usize, s: State, padded: Amount) -> Plan
-    requires { ⌜ Sound s ⌝ ∗ ⌜ isAccepted (values (drop at (now list))) ≡ true ⌝ ∗ ⌜ amountOf padded ≡ states.padding s (states.natural fields.ZeroEnded) ⌝ }
-    ensures { λ r. ⌜ ItemAt (now (list .entry)) at s (ops.Put fields.ZeroEnded) r ⌝ }
-{
-    match padded {
-        Amount::Refused(k) => Plan::Refused(k),
-        Amount::Bytes(p) => zero_ended_after(list, at, s, p),
-    }
-}
-
 // Whether a length in so many bytes can be n.
 fn countable(size: u64, n: usize) -> bool
     requires { ⌜ T (validField (fields.Counted size)) ⌝ ∗ ⌜ n ≤ 65535 ⌝ }
@@ -180,7 +155,7 @@ fn countable(size: u64, n: usize) -> bool
 }
 
 // s after p zeros: 11, 12, 15, 9.
-fn counted_after(list: &[u8], at: usize, s: State, p: u64, size: u64) -> Plan
+fn counted(list: &[u8], at: usize, s: State, p: u64, size: u64) -> Plan
     requires { ⌜ Sound s ⌝ ∗ ⌜ isAccepted (values (drop at (now list))) ≡ true ⌝ ∗ ⌜ states.padding s (states.natural (fields.Counted size)) ≡ accepted p ⌝ ∗ ⌜ T (validField (fields.Counted size)) ⌝ }
     ensures { λ r. ⌜ ItemAt (now (list .entry)) at s (ops.Put (fields.Counted size)) r ⌝ }
 {
@@ -196,27 +171,39 @@ fn counted_after(list: &[u8], at: usize, s: State, p: u64, size: u64) -> Plan
     }
 }
 
-// s: 6, then its length and the text.
-fn counted(list: &[u8], at: usize, s: State, padded: Amount, size: u64) -> Plan
-    requires { ⌜ Sound s ⌝ ∗ ⌜ isAccepted (values (drop at (now list))) ≡ true ⌝ ∗ ⌜ amountOf padded ≡ states.padding s (states.natural (fields.Counted size)) ⌝ ∗ ⌜ T (validField (fields.Counted size)) ⌝ }
-    ensures { λ r. ⌜ ItemAt (now (list .entry)) at s (ops.Put (fields.Counted size)) r ⌝ }
+// The zeros before a field, or 6.
+fn padding_of(s: State, f: Field) -> Amount
+    ensures { λ r. ⌜ amountOf r ≡ states.padding s (states.natural f) ⌝ }
+{
+    padding(s, natural(f))
+}
+
+// A field behind its padding: 6, then by its option.
+fn field_after(list: &[u8], at: usize, s: State, padded: Amount, f: Field) -> Plan
+    requires { ⌜ Sound s ⌝ ∗ ⌜ isAccepted (values (drop at (now list))) ≡ true ⌝ ∗ ⌜ amountOf padded ≡ states.padding s (states.natural f) ⌝ ∗ ⌜ T (validField f) ⌝ }
+    ensures { λ r. ⌜ ItemAt (now (list .entry)) at s (ops.Put f) r ⌝ }
 {
     match padded {
         Amount::Refused(k) => Plan::Refused(k),
-        Amount::Bytes(p) => counted_after(list, at, s, p, size),
+        Amount::Bytes(p) => match f {
+            Field::Number(kind, size) => number(list, at, s, p, kind, size),
+            Field::Chars(n) => chars(list, at, s, p, n),
+            Field::ZeroEnded => zero_ended(list, at, s, p),
+            Field::Counted(size) => counted(list, at, s, p, size),
+        },
     }
 }
 
-// A field. It is told apart before its padding is matched, so that the compiler knows which natural alignment it has.
+// A field. It is told apart before it is padded, so that the compiler knows in each case which natural alignment it has.
 fn field(list: &[u8], at: usize, s: State, f: Field) -> Plan
     requires { ⌜ Sound s ⌝ ∗ ⌜ isAccepted (values (drop at (now list))) ≡ true ⌝ ∗ ⌜ T (validField f) ⌝ }
     ensures { λ r. ⌜ ItemAt (now (list .entry)) at s (ops.Put f) r ⌝ }
 {
     match f {
-        Field::Number(kind, size) => number(list, at, s, padding(s, natural(f)), kind, size),
-        Field::Chars(n) => chars(list, at, s, padding(s, natural(f)), n),
-        Field::ZeroEnded => zero_ended(list, at, s, padding(s, natural(f))),
-        Field::Counted(size) => counted(list, at, s, padding(s, natural(f)), size),
+        Field::Number(_, _) => field_after(list, at, s, padding_of(s, f), f),
+        Field::Chars(_) => field_after(list, at, s, padding_of(s, f), f),
+        Field::ZeroEnded => field_after(list, at, s, padding_of(s, f), f),
+        Field::Counted(_) => field_after(list, at, s, padding_of(s, f), f),
     }
 }
 

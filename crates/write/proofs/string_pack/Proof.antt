@@ -4,16 +4,6 @@ use borrow.Author.Needs.{needs}
 use Rattle.write.proofs.string_pack.Statement.{statement}
 use Rattle.write.proofs.string_pack.Tie as tie
 
-returns : tie.Need-returns
-returns c =
-    let p = c .before .before .before .before .before in
-    plain-call _ _ _ _ (c .before .k .given .1) (p .before .before .start .ensures) (p .pack-continued .ensures)
-
-returns-2 : tie.Need-returns-2
-returns-2 c =
-    let p = c .before .before .before .before .before in
-    plain-call _ _ _ _ (c .before .c .given .1) (p .before .before .start .ensures) (p .pack-continued .ensures)
-
 pub string-pack-spec : {M : Type 1} → statement M
 string-pack-spec =
     tie.close
@@ -23,6 +13,6 @@ string-pack-spec =
     (λ c. search needs)
     (λ c. search needs)
     (λ c. search needs)
-    returns
+    (λ c. plain-call _ _ _ _ (c .before .k .given .1) (c .before .before .before .before .before .before .before .start .ensures) (c .before .before .before .before .before .pack-continued .ensures))
     (λ c. search needs)
-    returns-2)
+    (λ c. plain-call _ _ _ _ (c .before .c .given .1) (c .before .before .before .before .before .before .before .start .ensures) (c .before .before .before .before .before .pack-continued .ensures)))

@@ -1,4 +1,5 @@
 -- What the plan says is where the pass comes to, and what it puts.
+use Prim.Native.Nat.{_+_, _-_, _^_, _≤_}
 use mathlib.Core.Path.{_≡_, ap, _∙_}
 use native.Mathlib.Omega.{arith}
 use Rattle.plan.specs.declared.item.Plan.{Plan}
@@ -8,139 +9,118 @@ use borrow.Author.Needs.{needs}
 use Rattle.write.proofs.pass.advance.Statement.{statement}
 use Rattle.write.proofs.pass.advance.Tie as tie
 
+abbrev entry : tie.After-plan-of → tie.Start
+entry c = c .before .before .before .before
+
 -- the item's plan, where it is told to be r
-plan : (c : tie.After-plan-of) {r : Plan} → c .plan-of .result ≡ r → let a = c .before .before .before .before .args in At (a .list .now) (a .p) (a .op) r
-plan c e = as-plan (planned _ _ _ _ (c .before .before .before .before .pre .1 .0) (c .plan-of .ensures)) e
+plan : (c : tie.After-plan-of) {r : Plan} → c .plan-of .result ≡ r → let a = entry c .args in At (a .list .now) (a .p) (a .op) r
+plan c e = as-plan (planned _ _ _ _ (entry c .pre .1 .0) (c .plan-of .ensures)) e
 
-plan-of-requires : tie.Need-plan-of-requires
-plan-of-requires c κs = let s = c .before .before .before in (s .pre .0, (s .pre .1 .0, s .pre .1 .1 .1 .1 .0))
+-- the length that a number or a text leads to
+number-fits : (x : tie.After-n2) → let g = x .n2 .given .0 in entry (x .before .before) .args .p .state .length + (g .0 + g .1 .0) ≤ 2 ^ 63 - 1
+number-fits x = plan (x .before .before) (x .n2 .given .1) .says .room
 
-past-requires : tie.Need-past-requires
-past-requires c κs = c .before .before .before .before .before .before .before .before .pre .1 .1 .0
+text-fits : (x : tie.After-n3) → let g = x .n3 .given .0 in entry (x .before .before) .args .p .state .length + (g .0 + (g .1 .0 + g .1 .1 .1 .0 + g .1 .1 .1 .1 .0)) ≤ 2 ^ 63 - 1
+text-fits x = plan (x .before .before) (x .n3 .given .1) .says .0 .room
 
 emit-zeros-requires : tie.Need-emit-zeros-requires
 emit-zeros-requires c κs =
     let x = c .before .before in
-    let s = x .before .before .before .before .before .before in
+    let s = entry (x .before .before) in
     zeros-room (plan (x .before .before) (x .n .given .1)) (s .args .put) _ (s .args .w) (s .pre .1 .1 .1 .1 .1)
 
 further-requires : tie.Need-further-requires
-further-requires c κs =
-    let x = c .before .before .before .before .before in
-    (plan (x .before .before) (x .n .given .1)) .says .room
-
-past-requires-2 : tie.Need-past-requires-2
-past-requires-2 c κs = c .before .before .before .before .before .before .before .before .before .before .before .before .pre .1 .1 .0
+further-requires c κs = let x = c .before .before .before .before .before in plan (x .before .before) (x .n .given .1) .says .room
 
 emit-number-requires : tie.Need-emit-number-requires
 emit-number-requires c κs =
     let x = c .before .before in
-    let s = x .before .before .before .before .before .before in
+    let s = entry (x .before .before) in
     value-room (number-put (plan (x .before .before) (x .n2 .given .1))) (s .args .put) _ (s .args .w) (s .pre .1 .1 .1 .1 .1)
-
-add-past-value : tie.Need-add-past-value
-add-past-value c =
-    let x = c .before .before .before .before .before in
-    omega (arith, (plan (x .before .before) (x .n2 .given .1)) .says .room)
 
 past-value-requires : tie.Need-past-value-requires
 past-value-requires c κs =
     let x = c .before .before .before .before .before in
-    let s = x .before .before .before .before .before .before in
-    (s .pre .1 .1 .0, (s .pre .1 .1 .1 .0, (plan (x .before .before) (x .n2 .given .1)) .says .room))
+    let s = entry (x .before .before) in
+    (s .pre .1 .1 .0, (s .pre .1 .1 .1 .0, number-fits x))
 
 emit-text-requires : tie.Need-emit-text-requires
 emit-text-requires c κs =
     let x = c .before .before in
+    let s = entry (x .before .before) in
     let h = plan (x .before .before) (x .n3 .given .1) in
-    let s = x .before .before .before .before .before .before in
     (value-room (text-put h) (s .args .put) _ (s .args .w) (s .pre .1 .1 .1 .1 .1), h .says .1)
-
-add-past-value-2 : tie.Need-add-past-value-2
-add-past-value-2 c =
-    let x = c .before .before .before .before .before in
-    omega (arith, (plan (x .before .before) (x .n3 .given .1)) .says .0 .room)
-
-add-past-value-3 : tie.Need-add-past-value-3
-add-past-value-3 c =
-    let x = c .before .before .before .before .before in
-    omega (arith, (plan (x .before .before) (x .n3 .given .1)) .says .0 .room)
-
-add-past-value-4 : tie.Need-add-past-value-4
-add-past-value-4 c =
-    let x = c .before .before .before .before .before in
-    omega (arith, (plan (x .before .before) (x .n3 .given .1)) .says .0 .room)
 
 past-value-requires-2 : tie.Need-past-value-requires-2
 past-value-requires-2 c κs =
     let x = c .before .before .before .before .before in
-    let s = x .before .before .before .before .before .before in
-    (s .pre .1 .1 .0, (s .pre .1 .1 .1 .0, (plan (x .before .before) (x .n3 .given .1)) .says .0 .room))
+    let s = entry (x .before .before) in
+    (s .pre .1 .1 .0, (s .pre .1 .1 .1 .0, text-fits x))
 
 returns : tie.Need-returns
 returns c =
     let x = c .before in
     let h = plan (x .before .before) (x .k .given .1) in
-    let a = x .before .before .before .before .before .before .args in
+    let a = entry (x .before .before) .args in
     (h .says, refused-put (a .put) (a .out .now) (a .w) (h .says))
 
 returns-2 : tie.Need-returns-2
 returns-2 c =
     let h = plan (c .before .before) (c .enum-told .given .1) in
-    let a = c .before .before .before .before .before .before .args in
+    let a = entry (c .before .before) .args in
     (moved-skip h, none-put (a .put) (a .out .now) (a .w) (h .says))
 
 returns-3 : tie.Need-returns-3
 returns-3 c =
     let x = c .before .before .before in
     let h = plan (x .before .before) (x .x .given .1) in
-    let a = x .before .before .before .before .before .before .args in
+    let a = entry (x .before .before) .args in
     (moved-set h (c .past .ensures ∙ ap (passed (a .p)) (c .before .set .ensures)), none-put (a .put) (a .out .now) (a .w) (h .says))
 
 returns-4 : tie.Need-returns-4
 returns-4 c =
     let x = c .before .before .before .before .before .before .before in
     let h = plan (x .before .before) (x .n .given .1) in
-    let a = x .before .before .before .before .before .before .args in
+    let a = entry (x .before .before) .args in
     (moved-zeros h (c .past2 .ensures ∙ ap (passed (a .p)) (c .before .further .ensures)), zeros-put h (a .put) (a .out .now) (a .w) (c .before .before .before .before .emit-zeros .ensures))
 
 returns-5 : tie.Need-returns-5
 returns-5 c =
     let x = c .before .before .before .before .before .before in
     let v = number-put (plan (x .before .before) (x .n2 .given .1)) in
-    let a = x .before .before .before .before .before .before .args in
+    let a = entry (x .before .before) .args in
     (moved-value v (c .past-value .ensures), value-bytes-put v (a .put) (a .out .now) (a .w) (c .before .before .before .emit-number .ensures))
 
 returns-6 : tie.Need-returns-6
 returns-6 c =
     let x = c .before .before .before .before .before .before in
     let v = text-put (plan (x .before .before) (x .n3 .given .1)) in
-    let a = x .before .before .before .before .before .before .args in
+    let a = entry (x .before .before) .args in
     (moved-value v (c .past-value2 .ensures), value-bytes-put v (a .put) (a .out .now) (a .w) (c .before .before .before .emit-text .ensures))
 
 pub advance-spec : {M : Type 1} → statement M
 advance-spec =
     tie.close
     (tie.spec
-    plan-of-requires
+    (λ c κs. (c .before .before .before .pre .0, (c .before .before .before .pre .1 .0, c .before .before .before .pre .1 .1 .1 .1 .0)))
     (λ c. search needs)
     (λ c. search needs)
     (λ c. search needs)
     (λ c κs. search needs)
-    past-requires
+    (λ c κs. entry (c .before .before .before .before) .pre .1 .1 .0)
     (λ c. search needs)
     emit-zeros-requires
     further-requires
-    past-requires-2
+    (λ c κs. entry (c .before .before .before .before .before .before .before .before) .pre .1 .1 .0)
     (λ c. search needs)
     emit-number-requires
-    add-past-value
+    (λ c. omega (arith, number-fits (c .before .before .before .before .before)))
     past-value-requires
     (λ c. search needs)
     emit-text-requires
-    add-past-value-2
-    add-past-value-3
-    add-past-value-4
+    (λ c. omega (arith, text-fits (c .before .before .before .before .before)))
+    (λ c. omega (arith, text-fits (c .before .before .before .before .before)))
+    (λ c. omega (arith, text-fits (c .before .before .before .before .before)))
     past-value-requires-2
     returns
     returns-2

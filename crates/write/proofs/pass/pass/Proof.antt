@@ -30,39 +30,15 @@ item c =
 loop-holds : tie.Need-loop-holds Inv-loop μ-loop
 loop-holds c = let s = c .before .before .before .before in (passing-none _ _ _ _ _ _ _ (c .new .ensures) (s .pre .1 .0) (s .pre .1 .1 .0), refl)
 
-next-requires : tie.Need-next-requires Inv-loop μ-loop
-next-requires c κs = c .before .before .before .before .before .pre .0
-
-enum-told : tie.Need-enum-told Inv-loop μ-loop
-enum-told c = c .match .keys1
-
-totals-requires : tie.Need-totals-requires Inv-loop μ-loop
-totals-requires c κs = passing-length (c .before .before .before .loop .inv .0)
-
-same-length : tie.Need-same-length Inv-loop μ-loop
-same-length c = c .before .before .before .before .loop .inv .1
-
 returns : tie.Need-returns Inv-loop μ-loop
 returns c =
     let e = passing-end (c .before .before .before .before .loop .inv .0) (sym (c .before .before .before .next .ensures) ∙ ap nextOf (c .before .enum-told .given .1)) in
     (ap accepted (c .totals .ensures) ∙ e .0, e .1)
 
-enum-known-k : tie.Need-enum-known-k Inv-loop μ-loop
-enum-known-k c = c .match .keys2
-
-same-length-2 : tie.Need-same-length-2 Inv-loop μ-loop
-same-length-2 c = c .before .before .before .before .loop .inv .1
-
 returns-2 : tie.Need-returns-2 Inv-loop μ-loop
 returns-2 c =
     let l = c .before .before .before .before in
     passing-refusal (l .loop .inv .0) (l .before .before .before .before .before .pre .1 .1 .1) (sym (c .before .before .before .next .ensures) ∙ ap nextOf (c .before .k .given .1))
-
-enum-known-item : tie.Need-enum-known-item Inv-loop μ-loop
-enum-known-item c = c .match .keys3
-
-sub-advance : tie.Need-sub-advance Inv-loop μ-loop
-sub-advance c = passing-length (c .before .before .before .before .before .before .before .before .loop .inv .0)
 
 advance-requires : tie.Need-advance-requires Inv-loop μ-loop
 advance-requires c κs =
@@ -72,18 +48,12 @@ advance-requires c κs =
     let fits = passing-fits w (l .before .before .before .before .before .pre .1 .1 .1) (item o) (l .loop .inv .1) in
     (w .sound, (w .known, (omega (arith, w .few .1, w .inside), (omega (arith, w .few .0, w .inside), (item-valid w (item o) (l .before .before .before .before .before .pre .0), fits)))))
 
-enum-known-k-2 : tie.Need-enum-known-k-2 Inv-loop μ-loop
-enum-known-k-2 c = c .match2 .keys1
-
 returns-3 : tie.Need-returns-3 Inv-loop μ-loop
 returns-3 c =
     let a = c .before .before .before .before .before in
     let o = a .before .before .before in
     let l = o .before .before .before .before .before .before in
     passing-refused (l .loop .inv .0) (l .before .before .before .before .before .pre .1 .1 .1) (item o) _ (rw (c .before .k2 .given .1) at (a .advance .ensures .0)) (a .advance .ensures .1)
-
-enum-told-2 : tie.Need-enum-told-2 Inv-loop μ-loop
-enum-told-2 c = c .match2 .keys2
 
 loop-less : tie.Need-loop-less Inv-loop μ-loop
 loop-less c = let o = c .before .before .before .before .before .before .before in let h = item-ahead (o .before .before .before .before .before .before .loop .inv .0) (item o) in omega arith
@@ -94,9 +64,6 @@ loop-again c =
     let o = a .before .before .before in
     let l = o .before .before .before .before .before .before in
     (passing-on (l .loop .inv .0) (item o) (l .before .before .before .before .before .pre .0) (rw (c .enum-told2 .given .1) at (a .advance .ensures .0)) (a .advance .ensures .1), search needs)
-
-enum-known-q : tie.Need-enum-known-q Inv-loop μ-loop
-enum-known-q c = c .match2 .keys3
 
 loop-less-2 : tie.Need-loop-less-2 Inv-loop μ-loop
 loop-less-2 c = let o = c .before .before .before .before .before .before .before .before in let h = item-ahead (o .before .before .before .before .before .before .loop .inv .0) (item o) in omega arith
@@ -116,24 +83,24 @@ pass-spec =
     μ-loop
     (λ c κs. tt)
     loop-holds
-    next-requires
-    enum-told
-    totals-requires
-    same-length
+    (λ c κs. c .before .before .before .before .before .pre .0)
+    (λ c. c .match .keys1)
+    (λ c κs. passing-length (c .before .before .before .loop .inv .0))
+    (λ c. c .before .before .before .before .loop .inv .1)
     returns
-    enum-known-k
-    same-length-2
+    (λ c. c .match .keys2)
+    (λ c. c .before .before .before .before .loop .inv .1)
     returns-2
-    enum-known-item
+    (λ c. c .match .keys3)
     (λ c κs. tt)
-    sub-advance
+    (λ c. passing-length (c .before .before .before .before .before .before .before .before .loop .inv .0))
     advance-requires
-    enum-known-k-2
+    (λ c. c .match2 .keys1)
     (λ c. search needs)
     returns-3
-    enum-told-2
+    (λ c. c .match2 .keys2)
     loop-less
     loop-again
-    enum-known-q
+    (λ c. c .match2 .keys3)
     loop-less-2
     loop-again-2)
