@@ -182,33 +182,35 @@ module _ (s : State) (p n start len zeros next : ℕ) where
   pub text-put : leb (s .length + (p + (n + len + zeros))) (2 ^ 63 - 1) ≡ true → TextPlan s p n start len zeros next (Plan.Text p n start len zeros next)
   text-put h l vs f x within = (encoded-put l s vs f p _ next _ x (text-size l within) h, within)
 
-module _ (l : List ℕ) (at : ℕ) (s : State) (f : Field) (is-text : TextField f) where
-  module _ {p : ℕ} (padded : padding s (natural f) ≡ accepted p) where
-    pub text-early : {j : ℕ} → early s f ≡ refused j → ItemAt l at s (Op.Put f) (Plan.Refused j)
-    text-early {j} g vs known = field-early s f p padded vs j g
+-- a text option f after p zeros, which passed what is checked before its value
+pub record Begun (l : List ℕ) (at : ℕ) (s : State) (f : Field) (p : ℕ) : Type 0 where
+  pub is-text : TextField f
+  pub padded : padding s (natural f) ≡ accepted p
+  pub state : State
+  pub early-is : early s f ≡ accepted state
 
-    module _ {u : State} (g : early s f ≡ accepted u) where
-      pub text-missing : {j : ℕ} → TextRead l at (Text.Refused j) → ItemAt l at s (Op.Put f) (Plan.Refused j)
-      text-missing {j} h vs known = go vs (h vs known)
-        where
-          go : (ws : List definition.Value) → firstText ws ≡ refused j → wrote s ws (Op.Put f) ≡ refused j
-          go [] e = let i : 11 ≡ j = cc in field-none s f p padded u g ∙ ap refused i
-          go (v ∷ ws) e = field-refused s f p padded u g v ws j (no-text (s .big) f v j is-text e)
+module _ {l : List ℕ} {at : ℕ} {s : State} {f : Field} {p : ℕ} (b : Begun l at s f p) where
+  pub text-missing : {j : ℕ} → TextRead l at (Text.Refused j) → ItemAt l at s (Op.Put f) (Plan.Refused j)
+  text-missing {j} h vs known = go vs (h vs known)
+    where
+      go : (ws : List definition.Value) → firstText ws ≡ refused j → wrote s ws (Op.Put f) ≡ refused j
+      go [] e = let i : 11 ≡ j = cc in field-none s f p (b .padded) (b .state) (b .early-is) ∙ ap refused i
+      go (v ∷ ws) e = field-refused s f p (b .padded) (b .state) (b .early-is) v ws j (no-text (s .big) f v j (b .is-text) e)
 
-      module _ {start n next : ℕ} (h : TextAt l at start n next) where
-        pub text-refused : {j : ℕ} → encode (s .big) f (text (take n (drop start l))) ≡ refused j → ItemAt l at s (Op.Put f) (Plan.Refused j)
-        text-refused {j} e vs known =
-            let t = h .found vs known in
-            ap (λ (ws : List definition.Value). wrote s ws (Op.Put f)) (t .is) ∙ field-refused s f p padded u g _ (t .rest) j e
+  module _ {start n next : ℕ} (h : TextAt l at start n next) where
+    pub text-refused : {j : ℕ} → encode (s .big) f (text (take n (drop start l))) ≡ refused j → ItemAt l at s (Op.Put f) (Plan.Refused j)
+    text-refused {j} e vs known =
+        let t = h .found vs known in
+        ap (λ (ws : List definition.Value). wrote s ws (Op.Put f)) (t .is) ∙ field-refused s f p (b .padded) (b .state) (b .early-is) _ (t .rest) j e
 
-        pub text-planned : (m zeros : ℕ) (r : Plan) → encode (s .big) f (text (take n (drop start l))) ≡ accepted (textBytes (s .big) l m start n zeros) → TextPlan s p m start n zeros next r → ItemAt l at s (Op.Put f) r
-        text-planned m zeros r e q vs known =
-            let t = h .found vs known in
-            q l vs f (record { padded = padded; state = u; early-is = g; val = text (take n (drop start l)); rest = t .rest; first = t .is; encoded = e; list = t .list }) (h .within)
+    pub text-planned : (m zeros : ℕ) (r : Plan) → encode (s .big) f (text (take n (drop start l))) ≡ accepted (textBytes (s .big) l m start n zeros) → TextPlan s p m start n zeros next r → ItemAt l at s (Op.Put f) r
+    text-planned m zeros r e q vs known =
+        let t = h .found vs known in
+        q l vs f (record { padded = b .padded; state = b .state; early-is = b .early-is; val = text (take n (drop start l)); rest = t .rest; first = t .is; encoded = e; list = t .list }) (h .within)
 
 -- c checks 9 early
-pub chars-early : (s : State) (n : ℕ) → leb (s .length + n) (2 ^ 63 - 1) ≡ false → early s (Field.Chars n) ≡ refused 9
-chars-early s n e = no-room s n e
+pub chars-early : (l : List ℕ) (at : ℕ) (s : State) (n : ℕ) {p : ℕ} → padding s 1 ≡ accepted p → leb (s .length + n) (2 ^ 63 - 1) ≡ false → ItemAt l at s (Op.Put (Field.Chars n)) (Plan.Refused 9)
+chars-early l at s n {p} e h vs known = field-early s (Field.Chars n) p e vs 9 (no-room s n h)
 
 pub chars-room : (s : State) (n : ℕ) → leb (s .length + n) (2 ^ 63 - 1) ≡ true → early s (Field.Chars n) ≡ accepted (further s n)
 chars-room s n e = room-longer s n e

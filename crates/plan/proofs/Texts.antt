@@ -4,7 +4,7 @@ use native.Mathlib.Omega.{arith}
 use native.Mathlib.Nat.{add-assoc}
 use native.Mathlib.Numerals.{add-one}
 use mathlib.Core.Path.{_≡_, refl, sym, ap, _∙_, subst}
-use mathlib.Core.Bool.{Bool, true, false, _||_, cond, or-true}
+use mathlib.Core.Bool.{Bool, true, false, _||_, cond, or-true, or-false}
 use mathlib.Core.List.{List, [], _∷_, _++_, append-nil}
 use mathlib.Core.Logic.{⊎-elim}
 use mathlib.Core.Option.{none}
@@ -32,7 +32,7 @@ use Rattle.values.specs.declared.Value.{Value}
 use Rattle.values.specs.declared.Value.the-variants as Value
 use Rattle.values.proofs.Fields.{takes-none, takes-first}
 use Rattle.values.proofs.Value.{the-type}
-use Rattle.plan.specs.Texts.{firstText, TextOf, TextRead}
+use Rattle.plan.specs.Texts.{firstText, TextOf, TextAt, TextRead}
 use Rattle.plan.specs.Plans.{textBytes}
 use Rattle.plan.specs.declared.text.Text.{Text}
 use Rattle.plan.specs.declared.text.Text.the-variants as Text
@@ -74,20 +74,17 @@ module _ (l : List ℕ) (at : ℕ) where
       }
 
 -- ---- the bytes of a text
+no-prefix : (o : Bool) (v b : ℕ) → laid o 0 v b ≡ []
+unfolding laid little
+no-prefix false v b = refl
+no-prefix true v b = refl
+
 module _ (o : Bool) (l : List ℕ) (start n : ℕ) (within : start + n ≤ length l) where
   abbrev part : List ℕ
   part = take n (drop start l)
 
   size : length (take n (drop start l)) ≡ n
   size = length-take-le n (drop start l) (omega (arith, length-drop start l))
-
-  no-prefix : (v b : ℕ) → laid o 0 v b ≡ []
-  unfolding laid little
-  no-prefix v b = go o
-    where
-      go : (t : Bool) → laid t 0 v b ≡ []
-      go false = refl
-      go true = refl
 
   pub text-length : (k zeros : ℕ) → length (textBytes o l k start n zeros) ≡ k + n + zeros
   text-length k zeros =
@@ -96,29 +93,34 @@ module _ (o : Bool) (l : List ℕ) (start n : ℕ) (within : start + n ≤ lengt
       ∙ ap (λ (x : ℕ). k + x) (length-append part z ∙ ap (λ (x : ℕ). x + length z) size ∙ ap (λ (x : ℕ). n + x) (length-replicate zeros 0))
       ∙ sym (add-assoc k n zeros)
 
-  pub chars-long : (m : ℕ) → m < n → encode o (Field.Chars m) (text part) ≡ refused 15
-  unfolding encode
-  chars-long m h = rw (size, lt-leb n m h)
+-- ---- what the definition encodes of a text that was found, or refuses
+module _ (o : Bool) {l : List ℕ} {at start n next : ℕ} (x : TextAt l at start n next) where
+  found-size : length (take n (drop start l)) ≡ n
+  found-size = size o l start n (x .within)
 
-  pub chars-bytes : (m : ℕ) → n ≤ m → encode o (Field.Chars m) (text part) ≡ accepted (textBytes o l 0 start n (m - n))
+  pub chars-long : (m : ℕ) → m < n → encode o (Field.Chars m) (text (take n (drop start l))) ≡ refused 15
   unfolding encode
-  chars-bytes m h = rw (size, le-leb n m h, no-prefix n 0)
+  chars-long m h = rw (found-size, lt-leb n m h)
 
-  pub zero-ended-zero : hasZero part ≡ true → encode o Field.ZeroEnded (text part) ≡ refused 14
+  pub chars-bytes : (m : ℕ) → n ≤ m → encode o (Field.Chars m) (text (take n (drop start l))) ≡ accepted (textBytes o l 0 start n (m - n))
+  unfolding encode
+  chars-bytes m h = rw (found-size, le-leb n m h, no-prefix o n 0)
+
+  pub zero-ended-zero : hasZero (take n (drop start l)) ≡ true → encode o Field.ZeroEnded (text (take n (drop start l))) ≡ refused 14
   unfolding encode
   zero-ended-zero h = rw h
 
-  pub zero-ended-bytes : hasZero part ≡ false → encode o Field.ZeroEnded (text part) ≡ accepted (textBytes o l 0 start n 1)
+  pub zero-ended-bytes : hasZero (take n (drop start l)) ≡ false → encode o Field.ZeroEnded (text (take n (drop start l))) ≡ accepted (textBytes o l 0 start n 1)
   unfolding encode
-  zero-ended-bytes h = rw (h, no-prefix n 0)
+  zero-ended-bytes h = rw (h, no-prefix o n 0)
 
-  pub counted-long : (m : ℕ) → ltb n (256 ^ m) ≡ false → encode o (Field.Counted m) (text part) ≡ refused 15
+  pub counted-long : (m : ℕ) → ltb n (256 ^ m) ≡ false → encode o (Field.Counted m) (text (take n (drop start l))) ≡ refused 15
   unfolding encode
-  counted-long m h = rw (size, h)
+  counted-long m h = rw (found-size, h)
 
-  pub counted-bytes : (m : ℕ) → ltb n (256 ^ m) ≡ true → encode o (Field.Counted m) (text part) ≡ accepted (textBytes o l m start n 0)
+  pub counted-bytes : (m : ℕ) → ltb n (256 ^ m) ≡ true → encode o (Field.Counted m) (text (take n (drop start l))) ≡ accepted (textBytes o l m start n 0)
   unfolding encode
-  counted-bytes m h = rw (size, h, append-nil part)
+  counted-bytes m h = rw (found-size, h, append-nil (take n (drop start l)))
 
 pub within-to-16 : (n : ℕ) → T (within16 n) → n ≤ 16
 within-to-16 n h = leb→le n 16 (and-yes (leb 1 n) (leb n 16) h .1)
@@ -176,7 +178,3 @@ module _ (l : List ℕ) (start n i : ℕ) (within : start + n ≤ length l) (h :
 
   pub more-other : (getD l (start + i) 0 ≡ 0 → ⊥) → hasZero (take (i + 1) (drop start l)) ≡ hasZero (take i (drop start l))
   more-other e = rw (one-more, zero-last (take i (drop start l)) (getD l (start + i) 0), ne-eqb (getD l (start + i) 0) 0 e) (or-false (hasZero (take i (drop start l))))
-    where
-      or-false : (t : Bool) → (t || false) ≡ t
-      or-false true = refl
-      or-false false = refl

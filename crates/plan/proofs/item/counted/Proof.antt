@@ -2,49 +2,42 @@
 use mathlib.Core.Path.{refl, sym, _∙_}
 use native.Mathlib.Omega.{arith}
 use Rattle.definition.specs.declared.Field.the-variants as Field
-use Rattle.plan.proofs.Plans.{padding-lt, text-missing, text-refused, text-planned}
+use Rattle.plan.specs.Texts.{TextAt}
+use Rattle.plan.proofs.Plans.{padding-lt, Begun, text-missing, text-refused, text-planned}
 use Rattle.plan.proofs.Texts.{within-to-16, counted-long, counted-bytes}
 use borrow.Author.Needs.{needs}
 use Rattle.plan.proofs.item.counted.Statement.{statement}
 use Rattle.plan.proofs.item.counted.Tie as tie
 
-countable-requires : tie.Need-countable-requires
-countable-requires c κs = (c .before .before .before .before .before .pre .1 .1 .1, (rw (c .before .start .given .1) at (c .before .before .before .text-at .ensures)) .short)
+abbrev entry : tie.After-text-at → tie.Start
+entry t = t .before .before
+
+begun : (s : tie.Start) → Begun (s .args .list .now) (s .args .at) (s .args .s) (Field.Counted (s .args .size)) (s .args .p)
+begun s = record { is-text = tt; padded = s .pre .1 .1 .0; state = s .args .s; early-is = refl }
+
+-- the text that was found
+found : (x : tie.After-start) → let a = entry (x .before .before) .args in let g = x .start .given .0 in TextAt (a .list .now) (a .at) (g .0) (g .1 .0) (g .1 .1 .0)
+found x = rw (x .start .given .1) at (x .before .before .text-at .ensures)
 
 put-text-requires : tie.Need-put-text-requires
 put-text-requires c κs =
-    let t = c .before .before .before .before .before in
-    let s = t .before .before in
-    let a = s .args in
     let x = c .before .before .before in
-    let h = rw (x .start .given .1) at (t .text-at .ensures) in
-    (s .pre .0, (padding-lt (a .s) _ _ (s .pre .1 .1 .0), omega (arith, h .short, within-to-16 (a .size) (s .pre .1 .1 .1))))
+    let s = entry (x .before .before) in
+    (s .pre .0, (padding-lt (s .args .s) _ _ (s .pre .1 .1 .0), omega (arith, found x .short, within-to-16 (s .args .size) (s .pre .1 .1 .1))))
 
 returns : tie.Need-returns
-returns c =
-    let t = c .before .before .before in
-    let s = t .before .before in
-    let a = s .args in
-    text-missing (a .list .now) (a .at) (a .s) (Field.Counted (a .size)) tt (s .pre .1 .1 .0) refl (rw (c .before .k .given .1) at (t .text-at .ensures))
+returns c = let t = c .before .before .before in text-missing (begun (entry t)) (rw (c .before .k .given .1) at (t .text-at .ensures))
 
 returns-2 : tie.Need-returns-2
 returns-2 c =
-    let t = c .before .before .before .before .before .before in
-    let s = t .before .before in
-    let a = s .args in
     let x = c .before .before .before .before in
-    let h = rw (x .start .given .1) at (t .text-at .ensures) in
-    let bytes = counted-bytes (a .s .big) (a .list .now) _ _ (h .within) (a .size) (sym (c .before .before .countable .ensures) ∙ c .before .if1 .taken) in
-    text-planned (a .list .now) (a .at) (a .s) (Field.Counted (a .size)) tt (s .pre .1 .1 .0) refl h (a .size) 0 (c .put-text .result) bytes (c .put-text .ensures)
+    let bytes = counted-bytes _ (found x) _ (sym (c .before .before .countable .ensures) ∙ c .before .if1 .taken) in
+    text-planned (begun (entry (x .before .before))) (found x) _ 0 (c .put-text .result) bytes (c .put-text .ensures)
 
 returns-3 : tie.Need-returns-3
 returns-3 c =
-    let t = c .before .before .before .before .before in
-    let s = t .before .before in
-    let a = s .args in
     let x = c .before .before .before in
-    let h = rw (x .start .given .1) at (t .text-at .ensures) in
-    text-refused (a .list .now) (a .at) (a .s) (Field.Counted (a .size)) tt (s .pre .1 .1 .0) refl h (counted-long (a .s .big) (a .list .now) _ _ (h .within) (a .size) (sym (c .before .countable .ensures) ∙ c .if1 .left))
+    text-refused (begun (entry (x .before .before))) (found x) (counted-long _ (found x) _ (sym (c .before .countable .ensures) ∙ c .if1 .left))
 
 pub counted-spec : {M : Type 1} → statement M
 counted-spec =
@@ -53,7 +46,7 @@ counted-spec =
     (λ c κs. search needs)
     (λ c. search needs)
     (λ c. search needs)
-    countable-requires
+    (λ c κs. (entry (c .before .before .before) .pre .1 .1 .1, found (c .before) .short))
     put-text-requires
     returns
     returns-2

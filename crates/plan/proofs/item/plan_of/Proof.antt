@@ -6,12 +6,6 @@ use borrow.Author.Needs.{needs}
 use Rattle.plan.proofs.item.plan_of.Statement.{statement}
 use Rattle.plan.proofs.item.plan_of.Tie as tie
 
-pad-requires : tie.Need-pad-requires
-pad-requires c κs = let s = c .before .before .before .before in (s .pre .0, pad-small (s .args .op) _ _ (s .pre .1 .1) (c .before .op2 .given .1))
-
-field-requires : tie.Need-field-requires
-field-requires c κs = let s = c .before .before .before .before in (s .pre .0, (s .pre .1 .0, op-as (s .args .op) _ (s .pre .1 .1) (c .before .op3 .given .1)))
-
 returns : tie.Need-returns
 returns c =
     let a = c .before .before .before .args in
@@ -40,9 +34,9 @@ plan-of-spec =
     (λ c. search needs)
     (λ c. search needs)
     (λ c. search needs)
-    pad-requires
+    (λ c κs. (c .before .before .before .before .pre .0, pad-small _ _ _ (c .before .before .before .before .pre .1 .1) (c .before .op2 .given .1)))
     (λ c. search needs)
-    field-requires
+    (λ c κs. (c .before .before .before .before .pre .0, (c .before .before .before .before .pre .1 .0, op-as _ _ (c .before .before .before .before .pre .1 .1) (c .before .op3 .given .1))))
     returns
     returns-2
     returns-3

@@ -6,11 +6,8 @@ use borrow.Author.Needs.{needs}
 use Rattle.plan.proofs.item.put_number.Statement.{statement}
 use Rattle.plan.proofs.item.put_number.Tie as tie
 
-add-fits : tie.Need-add-fits
-add-fits c = let s = c .before .before .before .before in omega (arith, s .pre .1 .0, size-small (s .args .kind) (s .args .size) (s .pre .1 .1 .1))
-
-fits-requires : tie.Need-fits-requires
-fits-requires c κs = let s = c .before .before .before .before in sound-length (s .args .s) (s .pre .0)
+abbrev entry : tie.After-w → tie.Start
+entry x = x .before .before .before
 
 returns : tie.Need-returns
 returns c =
@@ -20,13 +17,13 @@ returns c =
 returns-2 : tie.Need-returns-2
 returns-2 c =
     let x = c .before .before .before in
-    let a = x .before .before .before .args in
+    let a = entry x .args in
     number-put (a .s) (a .p) (a .kind) (a .size) (a .v) (a .next) _ (λ l. rw (x .w .given .1) at (x .before .before .word-of .ensures l)) (sym (c .before .fits2 .ensures) ∙ c .if1 .taken)
 
 returns-3 : tie.Need-returns-3
 returns-3 c =
     let x = c .before .before .before in
-    let a = x .before .before .before .args in
+    let a = entry x .args in
     number-long (a .s) (a .p) (a .kind) (a .size) (a .v) (a .next) _ (λ l. rw (x .w .given .1) at (x .before .before .word-of .ensures l)) (sym (c .before .fits2 .ensures) ∙ c .if1 .left)
 
 pub put-number-spec : {M : Type 1} → statement M
@@ -36,8 +33,8 @@ put-number-spec =
     (λ c κs. search needs)
     (λ c. search needs)
     (λ c. search needs)
-    add-fits
-    fits-requires
+    (λ c. omega (arith, entry (c .before) .pre .1 .0, size-small (entry (c .before) .args .kind) (entry (c .before) .args .size) (entry (c .before) .pre .1 .1 .1)))
+    (λ c κs. sound-length (entry (c .before) .args .s) (entry (c .before) .pre .0))
     returns
     returns-2
     returns-3)

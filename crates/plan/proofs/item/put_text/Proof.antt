@@ -6,9 +6,6 @@ use borrow.Author.Needs.{needs}
 use Rattle.plan.proofs.item.put_text.Statement.{statement}
 use Rattle.plan.proofs.item.put_text.Tie as tie
 
-fits-requires : tie.Need-fits-requires
-fits-requires c κs = sound-length (c .args .s) (c .pre .0)
-
 returns : tie.Need-returns
 returns c =
     let a = c .before .before .args in
@@ -22,4 +19,10 @@ returns-2 c =
 pub put-text-spec : {M : Type 1} → statement M
 put-text-spec =
     tie.close
-    (tie.spec (λ c. search needs) (λ c. search needs) (λ c. search needs) fits-requires returns returns-2)
+    (tie.spec
+    (λ c. search needs)
+    (λ c. search needs)
+    (λ c. search needs)
+    (λ c κs. sound-length (c .args .s) (c .pre .0))
+    returns
+    returns-2)

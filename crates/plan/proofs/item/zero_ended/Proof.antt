@@ -2,49 +2,42 @@
 use mathlib.Core.Path.{refl, sym, _∙_}
 use native.Mathlib.Omega.{arith}
 use Rattle.definition.specs.declared.Field.the-variants as Field
-use Rattle.plan.proofs.Plans.{padding-lt, text-missing, text-refused, text-planned}
+use Rattle.plan.specs.Texts.{TextAt}
+use Rattle.plan.proofs.Plans.{padding-lt, Begun, text-missing, text-refused, text-planned}
 use Rattle.plan.proofs.Texts.{zero-ended-zero, zero-ended-bytes}
 use borrow.Author.Needs.{needs}
 use Rattle.plan.proofs.item.zero_ended.Statement.{statement}
 use Rattle.plan.proofs.item.zero_ended.Tie as tie
 
-has-zero-requires : tie.Need-has-zero-requires
-has-zero-requires c κs = (rw (c .before .start .given .1) at (c .before .before .before .text-at .ensures)) .within
+abbrev entry : tie.After-text-at → tie.Start
+entry t = t .before .before
+
+begun : (s : tie.Start) → Begun (s .args .list .now) (s .args .at) (s .args .s) Field.ZeroEnded (s .args .p)
+begun s = record { is-text = tt; padded = s .pre .1 .1; state = s .args .s; early-is = refl }
+
+-- the text that was found
+found : (x : tie.After-start) → let a = entry (x .before .before) .args in let g = x .start .given .0 in TextAt (a .list .now) (a .at) (g .0) (g .1 .0) (g .1 .1 .0)
+found x = rw (x .start .given .1) at (x .before .before .text-at .ensures)
 
 put-text-requires : tie.Need-put-text-requires
 put-text-requires c κs =
-    let t = c .before .before .before .before .before in
-    let s = t .before .before in
-    let a = s .args in
     let x = c .before .before .before in
-    let h = rw (x .start .given .1) at (t .text-at .ensures) in
-    (s .pre .0, (padding-lt (a .s) _ _ (s .pre .1 .1), omega (arith, h .short)))
+    let s = entry (x .before .before) in
+    (s .pre .0, (padding-lt (s .args .s) _ _ (s .pre .1 .1), omega (arith, found x .short)))
 
 returns : tie.Need-returns
-returns c =
-    let t = c .before .before .before in
-    let s = t .before .before in
-    let a = s .args in
-    text-missing (a .list .now) (a .at) (a .s) Field.ZeroEnded tt (s .pre .1 .1) refl (rw (c .before .k .given .1) at (t .text-at .ensures))
+returns c = let t = c .before .before .before in text-missing (begun (entry t)) (rw (c .before .k .given .1) at (t .text-at .ensures))
 
 returns-2 : tie.Need-returns-2
 returns-2 c =
-    let t = c .before .before .before .before .before in
-    let s = t .before .before in
-    let a = s .args in
     let x = c .before .before .before in
-    let h = rw (x .start .given .1) at (t .text-at .ensures) in
-    text-refused (a .list .now) (a .at) (a .s) Field.ZeroEnded tt (s .pre .1 .1) refl h (zero-ended-zero (a .s .big) (a .list .now) _ _ (h .within) (sym (c .before .has-zero .ensures) ∙ c .if1 .taken))
+    text-refused (begun (entry (x .before .before))) (found x) (zero-ended-zero _ (found x) (sym (c .before .has-zero .ensures) ∙ c .if1 .taken))
 
 returns-3 : tie.Need-returns-3
 returns-3 c =
-    let t = c .before .before .before .before .before .before in
-    let s = t .before .before in
-    let a = s .args in
     let x = c .before .before .before .before in
-    let h = rw (x .start .given .1) at (t .text-at .ensures) in
-    let bytes = zero-ended-bytes (a .s .big) (a .list .now) _ _ (h .within) (sym (c .before .before .has-zero .ensures) ∙ c .before .if1 .left) in
-    text-planned (a .list .now) (a .at) (a .s) Field.ZeroEnded tt (s .pre .1 .1) refl h 0 1 (c .put-text .result) bytes (c .put-text .ensures)
+    let bytes = zero-ended-bytes _ (found x) (sym (c .before .before .has-zero .ensures) ∙ c .before .if1 .left) in
+    text-planned (begun (entry (x .before .before))) (found x) 0 1 (c .put-text .result) bytes (c .put-text .ensures)
 
 pub zero-ended-spec : {M : Type 1} → statement M
 zero-ended-spec =
@@ -53,7 +46,7 @@ zero-ended-spec =
     (λ c κs. search needs)
     (λ c. search needs)
     (λ c. search needs)
-    has-zero-requires
+    (λ c κs. found (c .before) .within)
     put-text-requires
     returns
     returns-2
