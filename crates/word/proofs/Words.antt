@@ -26,16 +26,9 @@ use Rattle.definition.proofs.Numbers.{validSize, within-from-1}
 use Rattle.coder.proofs.Placing.{bits-of-bytes}
 use Rattle.single.specs.Single.{toSingle}
 use Rattle.numbers.specs.Meaning.{wrappedFloat}
-use Rattle.word.specs.Words.{fillOf, Says, patternOr}
+use Rattle.word.specs.Words.{fillOf, Says, patternOr, rangedOr}
 use Rattle.word.specs.declared.Word.{Word}
 use Rattle.word.specs.declared.Word.the-variants.{Refused, Bits}
-
--- ---- an integer that was bound from an enum
-pub fits-of : (z : ℤ) → mag z < 2 ^ 63 → SFits w64 z
-fits-of z h = record { sfits = h }
-
-same-integer : (z : ℤ) → mag z < 2 ^ 63 → toZ w64 (ofZ w64 z) ≡ z
-same-integer z h = toZ-ofZ (fits-of z h)
 
 -- ---- the word of an integer, of a pattern, and of a refusal
 
@@ -44,7 +37,9 @@ fill-sign (pos n) f = ap (λ (t : Bool). cond t 0 255) (lt-ltb n (2 ^ 63) (f .sf
 fill-sign (negsuc n) f = ap (λ (t : Bool). cond t 0 255) (le-ltb (2 ^ 64 - 1 - n) (2 ^ 63) (omega (arith, f .sfits)))
 
 pub says-integer : (n b : ℕ) (z : ℤ) {x : Checked ℤ} → mag z < 2 ^ 63 → b ≡ bits (toZ w64 (ofZ w64 z)) → x ≡ accepted z → Says n x (Bits b)
-says-integer n b z h e i o = rw i (ap (λ (c : ℕ). accepted (laid o n c (fillOf c))) (e ∙ ap bits (same-integer z h)) ∙ ap (λ (c : ℕ). accepted (laid o n (bits z) c)) (fill-sign z (fits-of z h)))
+says-integer n b z h e i o =
+    let same : toZ w64 (ofZ w64 z) ≡ z = toZ-ofZ (record { sfits = h }) in
+    rw i (ap (λ (c : ℕ). accepted (laid o n c (fillOf c))) (e ∙ ap bits same) ∙ ap (λ (c : ℕ). accepted (laid o n (bits z) c)) (fill-sign z (record { sfits = h })))
 
 -- up to eight bytes nothing is filled
 no-fill : (o : Bool) (n v b c : ℕ) → n ≤ 8 → laid o n v b ≡ laid o n v c
@@ -94,72 +89,26 @@ unsigned-wide n z f h w = ap (inUnsigned n) (positive z f h) ∙ lt-ltb (extent 
 pub unsigned-narrow : (n : ℕ) (z : ℤ) (e : ℕ) → SFits w64 z → ltZ (toZ w64 (ofZ w64 z)) (pos 0) ≡ false → n < 8 → e ≡ extent z → ltb e ((1 * 2 ^ (8 * n)) % 18446744073709551616) ≡ inUnsigned n z
 unsigned-narrow n z e f h l i = rw i (ap (ltb (extent z)) (shifted (8 * n) (omega arith) ∙ bits-of-bytes n) ∙ sym (ap (inUnsigned n) (positive z f h)))
 
--- ---- i l I L: an integer that passes a test
-module _ (inside : ℤ → Bool) where
-  abbrev pub ranged : Value → Checked ℤ
-  ranged w = do
-    z ← orElse (asInteger w) (refused 12)
-    require (inside z) 13
-    accepted z
-
-  module _ (n : ℕ) (w : Value) {x : Checked ℤ} (is : x ≡ ranged w) where
-    pub says-no-integer : asInteger w ≡ none → Says n x (Refused 12)
-    says-no-integer e = says-refused n 12 (is ∙ rw e)
-
-    -- t is the test of the integer z, as the code makes it
-    module _ {z : ℤ} {t : Bool} (e : asInteger w ≡ some z) (h : mag z < 2 ^ 63) (test : t ≡ inside (toZ w64 (ofZ w64 z))) where
-      tested : {u : Bool} → t ≡ u → inside z ≡ u
-      tested g = ap inside (sym (same-integer z h)) ∙ sym test ∙ g
-
-      pub says-inside : {b : ℕ} → t ≡ true → b ≡ bits (toZ w64 (ofZ w64 z)) → Says n x (Bits b)
-      says-inside {b} g i = says-integer n b z h i (is ∙ rw (e, tested g))
-
-      pub says-outside : t ≡ false → Says n x (Refused 13)
-      says-outside g = says-refused n 13 (is ∙ rw (e, tested g))
-
-pub signed-is : (n : ℕ) (w : Value) → word Signed n w ≡ ranged (inSigned n) w
-unfolding word
-signed-is n w = refl
-
-pub unsigned-is : (n : ℕ) (w : Value) → word Unsigned n w ≡ ranged (inUnsigned n) w
-unfolding word
-unsigned-is n w = refl
+-- ---- an integer z that was bound from an enum, and passes a test; t is the test as the code makes it
+pub says-ranged : (inside : ℤ → Bool) (n : ℕ) (z : ℤ) {t : Bool} {x : Checked ℤ} (r : Word) → mag z < 2 ^ 63 → x ≡ rangedOr (inside z) z → t ≡ inside (toZ w64 (ofZ w64 z)) → Says n (rangedOr t (toZ w64 (ofZ w64 z))) r → Says n x r
+says-ranged inside n z r h i e s =
+    let same : toZ w64 (ofZ w64 z) ≡ z = toZ-ofZ (record { sfits = h }) in
+    says-as n r (rw (e, same) at s) i
 
 -- ---- the kinds, by what the value w is
-module _ (w : Value) where
-  module _ (z : ℤ) (e : asInteger w ≡ some z) where
-    pub small-word : (n : ℕ) → word SmallSigned n w ≡ accepted z
-    unfolding word
-    small-word n = rw e
 
-    pub lua-word : (n : ℕ) → word LuaInteger n w ≡ accepted z
-    unfolding word
-    lua-word n = rw e
+-- what they make of its integer z
+pub record OfInteger (n : ℕ) (w : Value) (z : ℤ) : Type 0 where
+  pub small : word SmallSigned n w ≡ accepted z
+  pub signed : word Signed n w ≡ rangedOr (inSigned n z) z
+  pub unsigned : word Unsigned n w ≡ rangedOr (inUnsigned n z) z
+  pub lua : word LuaInteger n w ≡ accepted z
+  pub lua-unsigned : word LuaUnsigned n w ≡ rangedOr (inUnsigned n z) z
+  pub size : word Size n w ≡ accepted z
 
-    pub lua-unsigned-word : (n : ℕ) → inUnsigned n z ≡ true → word LuaUnsigned n w ≡ accepted z
-    unfolding word
-    lua-unsigned-word n h = rw (e, h)
-
-    pub lua-unsigned-out : (n : ℕ) → inUnsigned n z ≡ false → word LuaUnsigned n w ≡ refused 13
-    unfolding word
-    lua-unsigned-out n h = rw (e, h)
-
-    pub size-integer : (n : ℕ) → word Size n w ≡ accepted z
-    unfolding word
-    size-integer n = rw e
-
-  module _ (e : asInteger w ≡ none) where
-    pub small-none : (n : ℕ) → word SmallSigned n w ≡ refused 12
-    unfolding word
-    small-none n = rw e
-
-  pub single-word : (b n : ℕ) → asNumber w ≡ some b → word Single n w ≡ accepted (pos (toSingle b))
-  unfolding word
-  single-word b n e = rw e
-
-  pub single-none : (n : ℕ) → asNumber w ≡ none → word Single n w ≡ refused 12
-  unfolding word
-  single-none n e = rw e
+pub of-integer : (n : ℕ) (w : Value) (z : ℤ) → asInteger w ≡ some z → OfInteger n w z
+unfolding word
+of-integer n w z e = record { small = rw e; signed = rw e; unsigned = rw e; lua = rw e; lua-unsigned = rw e; size = rw e }
 
 pub some-none : {A : Type 0} {a : A} → some a ≡ none → ⊥
 some-none e = let x : _≡_ {A = ℕ} 0 1 = cc in omega arith
@@ -177,13 +126,25 @@ float-wrapped (float b) e = refl
 float-wrapped (text s) e = refl
 float-wrapped other e = refl
 
-pub lua-pattern : (w : Value) (n : ℕ) → asInteger w ≡ none → word LuaInteger n w ≡ patternOr (asNumber w)
-unfolding word
-lua-pattern w n e = rw e (float-bits w e)
+-- what they make of it where it has none
+pub record OfNone (n : ℕ) (w : Value) : Type 0 where
+  pub small : word SmallSigned n w ≡ refused 12
+  pub signed : word Signed n w ≡ refused 12
+  pub unsigned : word Unsigned n w ≡ refused 12
+  pub lua : word LuaInteger n w ≡ patternOr (asNumber w)
+  pub size : word Size n w ≡ patternOr (wrappedFloat w)
 
-pub size-pattern : (w : Value) (n : ℕ) → asInteger w ≡ none → word Size n w ≡ patternOr (wrappedFloat w)
+pub of-none : (n : ℕ) (w : Value) → asInteger w ≡ none → OfNone n w
 unfolding word
-size-pattern w n e = rw e (float-wrapped w e)
+of-none n w e = record { small = rw e; signed = rw e; unsigned = rw e; lua = rw e (float-bits w e); size = rw e (float-wrapped w e) }
+
+pub single-word : (w : Value) (b n : ℕ) → asNumber w ≡ some b → word Single n w ≡ accepted (pos (toSingle b))
+unfolding word
+single-word w b n e = rw e
+
+pub single-none : (w : Value) (n : ℕ) → asNumber w ≡ none → word Single n w ≡ refused 12
+unfolding word
+single-none w n e = rw e
 
 -- J of a pattern is in the range of eight bytes
 pub lua-unsigned-pattern : (w : Value) → asInteger w ≡ none → ((b : ℕ) → asNumber w ≡ some b → b < 2 ^ 64) → word LuaUnsigned 8 w ≡ patternOr (asNumber w)
@@ -215,37 +176,8 @@ pub same-small : (n : ℕ) (w : Value) → word SmallSigned n w ≡ word SmallUn
 unfolding word
 same-small n w = refl
 
-pub signed-from-1 : (k : Kind) (n : ℕ) → T (validSize k n) → k ≡ Signed → 1 ≤ n
-signed-from-1 k n h e = within-from-1 n (subst (λ (x : Kind). T (validSize x n)) e h)
-
-pub lua-size : (k : Kind) (n : ℕ) → T (validSize k n) → k ≡ LuaUnsigned → n ≡ 8
-lua-size k n h e = eqb→eq n 8 (subst (λ (x : Kind). T (validSize x n)) e h)
+pub valid-as : {k j : Kind} (n : ℕ) → T (validSize k n) → k ≡ j → T (validSize j n)
+valid-as n h e = subst (λ (x : Kind). T (validSize x n)) e h
 
 pub of-size : (k : Kind) (m n : ℕ) (w : Value) (r : Word) → Says m (word k m w) r → n ≡ m → Says n (word k n w) r
 of-size k m n w r h i = subst (λ (x : ℕ). Says x (word k x w) r) (sym i) h
-
--- patterns have at most eight bytes
-abbrev isPattern : Kind → Bool
-isPattern SmallSigned = false
-isPattern SmallUnsigned = false
-isPattern Signed = false
-isPattern Unsigned = false
-isPattern LuaInteger = true
-isPattern LuaUnsigned = true
-isPattern Size = true
-isPattern Single = true
-isPattern Double = true
-
-pub of-pattern : {k : Kind} (j : Kind) (n : ℕ) (w : Value) (r : Word) → T (isPattern j) → T (validSize k n) → k ≡ j → ((m : ℕ) → m ≤ 8 → Says m (word j m w) r) → Says n (word k n w) r
-of-pattern j n w r p h e f = of-kind n w r e (f n (go j (subst (λ (x : Kind). T (validSize x n)) e h) p))
-  where
-    go : (j : Kind) → T (validSize j n) → T (isPattern j) → n ≤ 8
-    go SmallSigned h p = absurd p
-    go SmallUnsigned h p = absurd p
-    go Signed h p = absurd p
-    go Unsigned h p = absurd p
-    go LuaInteger h p = omega (arith, eqb→eq n 8 h)
-    go LuaUnsigned h p = omega (arith, eqb→eq n 8 h)
-    go Size h p = leb→le n 8 h
-    go Single h p = omega (arith, eqb→eq n 4 h)
-    go Double h p = omega (arith, eqb→eq n 8 h)

@@ -6,7 +6,7 @@ use mathlib.Core.List.{List}
 use mathlib.Core.Option.{Option, none, some}
 use lib.Dec.{ltb}
 use lib.IntN.{ℤ, pos}
-use Rattle.definition.specs.Answers.{Checked, refused, accepted, _>>=_}
+use Rattle.definition.specs.Answers.{Checked, refused, accepted, _>>=_, _>>_, require}
 use Rattle.definition.specs.Bytes.{laid, coded}
 use Rattle.word.specs.declared.Word.{Word}
 use Rattle.word.specs.declared.Word.the-variants.{Refused, Bits}
@@ -28,3 +28,7 @@ Says n z r = (o : Bool) → wordBytes o n r ≡ (z >>= λ x. accepted (coded o n
 abbrev pub patternOr : Option ℕ → Checked ℤ
 patternOr (some b) = accepted (pos b)
 patternOr none = refused 12
+
+-- an integer that is inside its range, or 13
+abbrev pub rangedOr : Bool → ℤ → Checked ℤ
+rangedOr inside z = require inside 13 >> accepted z

@@ -19,7 +19,7 @@ ghost use Rattle.definition.specs.declared.Kind.the-variants as kinds;
 ghost use Rattle.definition.proofs.Numbers.{validSize};
 ghost use Rattle.values.specs.Meaning.{meaning, Proper};
 ghost use Rattle.numbers.specs.Meaning.{bitsFound};
-ghost use Rattle.word.specs.Words.{Says, patternOr};
+ghost use Rattle.word.specs.Words.{Says, patternOr, rangedOr};
 
 // The number of a refusal, or 64 bits: those of an integer, or a pattern.
 pub enum Word {
@@ -62,18 +62,25 @@ fn in_unsigned(size: u64, z: i64) -> bool
     extent(z) < 1 << (8 * size)
 }
 
+// An integer, or 13 where it is out of its range.
+fn in_range(inside: bool, z: i64) -> Word
+    ensures { λ r. ⌜ ((n : ℕ) → Says n (rangedOr inside z) r) ⌝ }
+{
+    if inside {
+        Word::Bits(to_word(z))
+    } else {
+        Word::Refused(13)
+    }
+}
+
 // i l
 fn signed(size: u64, v: Value) -> Word
     requires { ⌜ Proper v ⌝ ∗ ⌜ 1 ≤ size ⌝ }
     ensures { λ r. ⌜ ((l : List ℕ) → Says size (fields.word kinds.Signed size (meaning l v)) r) ⌝ }
 {
-    let Found::Integer(z) = as_integer(v) else {
-        return Word::Refused(12);
-    };
-    if in_signed(size, z) {
-        Word::Bits(to_word(z))
-    } else {
-        Word::Refused(13)
+    match as_integer(v) {
+        Found::Integer(z) => in_range(in_signed(size, z), z),
+        Found::Nothing => Word::Refused(12),
     }
 }
 
@@ -82,13 +89,9 @@ fn unsigned(size: u64, v: Value) -> Word
     requires { ⌜ Proper v ⌝ }
     ensures { λ r. ⌜ ((l : List ℕ) → Says size (fields.word kinds.Unsigned size (meaning l v)) r) ⌝ }
 {
-    let Found::Integer(z) = as_integer(v) else {
-        return Word::Refused(12);
-    };
-    if in_unsigned(size, z) {
-        Word::Bits(to_word(z))
-    } else {
-        Word::Refused(13)
+    match as_integer(v) {
+        Found::Integer(z) => in_range(in_unsigned(size, z), z),
+        Found::Nothing => Word::Refused(12),
     }
 }
 
@@ -119,13 +122,7 @@ fn lua_unsigned(v: Value) -> Word
     ensures { λ r. ⌜ ((l : List ℕ) → Says 8 (fields.word kinds.LuaUnsigned 8 (meaning l v)) r) ⌝ }
 {
     match as_integer(v) {
-        Found::Integer(z) => {
-            if z < 0 {
-                Word::Refused(13)
-            } else {
-                Word::Bits(to_word(z))
-            }
-        }
+        Found::Integer(z) => in_range(in_unsigned(8, z), z),
         Found::Nothing => pattern(as_number(v)),
     }
 }
@@ -152,15 +149,7 @@ fn single(v: Value) -> Word
     }
 }
 
-// d n: a number.
-fn double(v: Value) -> Word
-    requires { ⌜ Proper v ⌝ }
-    ensures { λ r. ⌜ ((l : List ℕ) (n : ℕ) → n ≤ 8 → Says n (fields.word kinds.Double n (meaning l v)) r) ⌝ }
-{
-    pattern(as_number(v))
-}
-
-// The word of a value: 12, 13.
+// The word of a value: 12, 13. d and n are a number's bits.
 pub fn word_of(kind: Kind, size: u64, v: Value) -> Word
     requires { ⌜ Proper v ⌝ ∗ ⌜ T (validSize kind size) ⌝ }
     ensures { λ r. ⌜ ((l : List ℕ) → Says size (fields.word kind size (meaning l v)) r) ⌝ }
@@ -174,6 +163,6 @@ pub fn word_of(kind: Kind, size: u64, v: Value) -> Word
         Kind::LuaUnsigned => lua_unsigned(v),
         Kind::Size => size_word(v),
         Kind::Single => single(v),
-        Kind::Double => double(v),
+        Kind::Double => pattern(as_number(v)),
     }
 }

@@ -1,8 +1,8 @@
 -- The number that was found, rounded, or 12.
-use mathlib.Core.Path.{sym, ap, _∙_}
-use Rattle.definition.specs.Answers.{accepted}
-use lib.IntN.{pos}
 use Prim.Native.Nat.{ℕ}
+use mathlib.Core.Path.{sym, ap, _∙_}
+use lib.IntN.{pos}
+use Rattle.definition.specs.Answers.{accepted}
 use Rattle.numbers.specs.Meaning.{bitsFound}
 use Rattle.word.proofs.Words.{says-pattern, says-refused, single-word, single-none}
 use borrow.Author.Needs.{needs}

@@ -1,13 +1,14 @@
 -- Each kind has its own function.
-use Rattle.definition.specs.declared.Kind.the-variants.{LuaInteger, LuaUnsigned, Size, Single, Double}
-use Rattle.word.proofs.Words.{says-as, of-pattern, of-kind, of-size, same-small, signed-from-1, lua-size}
-use mathlib.Core.Path.{sym}
+use mathlib.Core.Path.{sym, ap, _∙_}
+use native.Mathlib.Omega.{arith}
+use lib.Dec.{leb→le, eqb→eq}
+use Rattle.definition.specs.declared.Kind.the-variants.{LuaUnsigned}
+use Rattle.definition.proofs.Numbers.{within-from-1}
+use Rattle.word.specs.Words.{patternOr}
+use Rattle.word.proofs.Words.{says-as, of-kind, of-size, valid-as, same-small, double-word}
 use borrow.Author.Needs.{needs}
 use Rattle.word.proofs.word_of.Statement.{statement}
 use Rattle.word.proofs.word_of.Tie as tie
-
-signed-requires : tie.Need-signed-requires
-signed-requires c κs = let s = c .before .before in (s .pre .0, signed-from-1 (s .args .kind) (s .args .size) (s .pre .1) (c .enum-told3 .given .1))
 
 returns : tie.Need-returns
 returns c = let a = c .before .before .before .args in λ l. of-kind (a .size) _ (c .any-integer .result) (c .before .enum-told .given .1) (c .any-integer .ensures l (a .size))
@@ -22,23 +23,40 @@ returns-4 : tie.Need-returns-4
 returns-4 c = let a = c .before .before .before .args in λ l. of-kind (a .size) _ (c .unsigned .result) (c .before .enum-told4 .given .1) (c .unsigned .ensures l)
 
 returns-5 : tie.Need-returns-5
-returns-5 c = let s = c .before .before .before in λ l. of-pattern LuaInteger (s .args .size) _ (c .lua-integer .result) tt (s .pre .1) (c .before .enum-told5 .given .1) (c .lua-integer .ensures l)
+returns-5 c =
+    let s = c .before .before .before in
+    let n = s .args .size in
+    let e = c .before .enum-told5 .given .1 in
+    λ l. of-kind n _ (c .lua-integer .result) e (c .lua-integer .ensures l n (omega (arith, eqb→eq n 8 (valid-as n (s .pre .1) e))))
 
 returns-6 : tie.Need-returns-6
 returns-6 c =
     let s = c .before .before .before in
-    let a = s .args in
-    let h = lua-size (a .kind) (a .size) (s .pre .1) (c .before .enum-told6 .given .1) in
-    λ l. of-kind (a .size) _ (c .lua-unsigned .result) (c .before .enum-told6 .given .1) (of-size LuaUnsigned 8 (a .size) _ (c .lua-unsigned .result) (c .lua-unsigned .ensures l) h)
+    let n = s .args .size in
+    let e = c .before .enum-told6 .given .1 in
+    λ l. of-kind n _ (c .lua-unsigned .result) e (of-size LuaUnsigned 8 n _ (c .lua-unsigned .result) (c .lua-unsigned .ensures l) (eqb→eq n 8 (valid-as n (s .pre .1) e)))
 
 returns-7 : tie.Need-returns-7
-returns-7 c = let s = c .before .before .before in λ l. of-pattern Size (s .args .size) _ (c .size-word .result) tt (s .pre .1) (c .before .enum-told7 .given .1) (c .size-word .ensures l)
+returns-7 c =
+    let s = c .before .before .before in
+    let n = s .args .size in
+    let e = c .before .enum-told7 .given .1 in
+    λ l. of-kind n _ (c .size-word .result) e (c .size-word .ensures l n (leb→le n 8 (valid-as n (s .pre .1) e)))
 
 returns-8 : tie.Need-returns-8
-returns-8 c = let s = c .before .before .before in λ l. of-pattern Single (s .args .size) _ (c .single .result) tt (s .pre .1) (c .before .enum-told8 .given .1) (c .single .ensures l)
+returns-8 c =
+    let s = c .before .before .before in
+    let n = s .args .size in
+    let e = c .before .enum-told8 .given .1 in
+    λ l. of-kind n _ (c .single .result) e (c .single .ensures l n (omega (arith, eqb→eq n 4 (valid-as n (s .pre .1) e))))
 
 returns-9 : tie.Need-returns-9
-returns-9 c = let s = c .before .before .before in λ l. of-pattern Double (s .args .size) _ (c .double .result) tt (s .pre .1) (c .before .enum-told9 .given .1) (c .double .ensures l)
+returns-9 c =
+    let s = c .before .before .before .before in
+    let n = s .args .size in
+    let e = c .before .before .enum-told9 .given .1 in
+    let bits = c .pattern .ensures .0 n (omega (arith, eqb→eq n 8 (valid-as n (s .pre .1) e))) in
+    λ l. of-kind n _ (c .pattern .result) e (says-as n (c .pattern .result) bits (double-word _ n ∙ sym (ap patternOr (c .before .as-number .ensures l))))
 
 pub word-of-spec : {M : Type 1} → statement M
 word-of-spec =
@@ -49,7 +67,7 @@ word-of-spec =
     (λ c. search needs)
     (λ c κs. search needs)
     (λ c. search needs)
-    signed-requires
+    (λ c κs. (c .before .before .pre .0, within-from-1 _ (valid-as _ (c .before .before .pre .1) (c .enum-told3 .given .1))))
     (λ c. search needs)
     (λ c κs. search needs)
     (λ c. search needs)
@@ -61,6 +79,7 @@ word-of-spec =
     (λ c. search needs)
     (λ c κs. search needs)
     (λ c. search needs)
+    (λ c κs. search needs)
     (λ c κs. search needs)
     returns
     returns-2
