@@ -1,17 +1,16 @@
 -- The bytes of a text option are what the definition encodes, and without a text there are 11 and 12.
-use Prim.Native.Nat.{ℕ, zero, suc, _+_, _-_, _^_, _≤_, _<_}
+use Prim.Native.Nat.{ℕ, suc, _+_, _-_, _^_, _≤_, _<_}
 use native.Mathlib.Omega.{arith}
 use native.Mathlib.Nat.{add-assoc}
-use native.Mathlib.Numerals.{add-one}
 use mathlib.Core.Path.{_≡_, refl, sym, ap, _∙_, subst}
-use mathlib.Core.Bool.{Bool, true, false, _||_, cond, or-true, or-false}
+use mathlib.Core.Bool.{Bool, true, false, _||_, or-true}
 use mathlib.Core.List.{List, [], _∷_, _++_, append-nil}
 use mathlib.Core.Logic.{⊎-elim}
 use mathlib.Core.Option.{none}
-use lib.Dec.{T, leb, ltb, eqb, leb→le}
+use lib.Dec.{T, leb, ltb, leb→le}
 use mir.Facts.{and-yes}
 use lib.ListN.{length, take, drop, getD, replicate, length-append, length-drop, length-replicate}
-use lib.Seq.{length-take-le, take-suc, getD-drop}
+use lib.Seq.{length-take-le, drop-cons}
 use types.Run.{OneOf}
 use denote.Enum.Declared.{tagOf}
 use borrow.Author.Tests.{leb-true, leb-false, le-leb, lt-leb, lt-ltb, le-ltb, eq-eqb, ne-eqb}
@@ -134,12 +133,7 @@ count-one m n e = rw e (go (leb n 255) refl)
     go false h = sym (le-ltb n 256 (leb-false n 255 h))
 
 pub count-more : (m n : ℕ) → T (within16 m) → n ≤ 65535 → (m ≡ 1 → ⊥) → true ≡ ltb n (256 ^ m)
-count-more m n w h other-size = sym (lt-ltb n (256 ^ m) (omega (arith, pow-le 2 m (two m (within-from-1 m w) other-size))))
-  where
-    two : (m : ℕ) → 1 ≤ m → (m ≡ 1 → ⊥) → 2 ≤ m
-    two zero l h = omega arith
-    two (suc zero) l h = absurd (h refl)
-    two (suc (suc m)) l h = omega arith
+count-more m n w h other-size = sym (lt-ltb n (256 ^ m) (omega (arith, pow-le 2 m (omega (arith, within-from-1 m w, other-size)))))
 
 -- ---- no text
 abbrev pub TextField : Field → Type 0
@@ -155,26 +149,17 @@ no-text o (Field.Chars n) v k t e = rw e
 no-text o Field.ZeroEnded v k t e = rw e
 no-text o (Field.Counted n) v k t e = rw e
 
--- ---- zeros among the bytes passed
-
-zero-last : (s : List ℕ) (b : ℕ) → hasZero (s ++ (b ∷ [])) ≡ (hasZero s || eqb b 0)
-zero-last [] b = go (eqb b 0)
-  where
-    go : (t : Bool) → cond t true false ≡ t
-    go true = refl
-    go false = refl
-zero-last (c ∷ s) b = go (eqb c 0) (zero-last s b)
-  where
-    go : (t : Bool) → hasZero (s ++ (b ∷ [])) ≡ (hasZero s || eqb b 0) → cond t true (hasZero (s ++ (b ∷ []))) ≡ (cond t true (hasZero s) || eqb b 0)
-    go true e = refl
-    go false e = e
-
+-- ---- zeros among the bytes of l from start, of which i are passed and n - i are left
 module _ (l : List ℕ) (start n i : ℕ) (within : start + n ≤ length l) (h : i < n) where
-  one-more : take (i + 1) (drop start l) ≡ take i (drop start l) ++ (getD l (start + i) 0 ∷ [])
-  one-more = ap (λ (k : ℕ). take k (drop start l)) (add-one i) ∙ take-suc (drop start l) i 0 (omega (arith, length-drop start l)) ∙ ap (λ (b : ℕ). take i (drop start l) ++ (b ∷ [])) (getD-drop start l i 0)
+  next-left : take (n - i) (drop (start + i) l) ≡ getD l (start + i) 0 ∷ take (n - (i + 1)) (drop (start + (i + 1)) l)
+  next-left =
+      let one : n - i ≡ suc (n - (i + 1)) = omega arith in
+      let behind : suc (start + i) ≡ start + (i + 1) = omega arith in
+      rw (drop-cons l (start + i) 0 (omega arith), one, behind)
 
-  pub more-zero : getD l (start + i) 0 ≡ 0 → hasZero (take (i + 1) (drop start l)) ≡ true
-  more-zero e = rw (one-more, zero-last (take i (drop start l)) (getD l (start + i) 0), eq-eqb (getD l (start + i) 0) 0 e) (or-true (hasZero (take i (drop start l))))
+  -- f is what was found before the byte, g what is found with it, and e whether there is a zero among all
+  pub next-zero : (f : Bool) {g e : Bool} → getD l (start + i) 0 ≡ 0 → g ≡ true → (f || hasZero (take (n - i) (drop (start + i) l))) ≡ e → (g || hasZero (take (n - (i + 1)) (drop (start + (i + 1)) l))) ≡ e
+  next-zero f z is-true so = rw is-true (sym (or-true f) ∙ (rw (next-left, eq-eqb (getD l (start + i) 0) 0 z) at so))
 
-  pub more-other : (getD l (start + i) 0 ≡ 0 → ⊥) → hasZero (take (i + 1) (drop start l)) ≡ hasZero (take i (drop start l))
-  more-other e = rw (one-more, zero-last (take i (drop start l)) (getD l (start + i) 0), ne-eqb (getD l (start + i) 0) 0 e) (or-false (hasZero (take i (drop start l))))
+  pub next-other : {f g e : Bool} → (getD l (start + i) 0 ≡ 0 → ⊥) → g ≡ f → (f || hasZero (take (n - i) (drop (start + i) l))) ≡ e → (g || hasZero (take (n - (i + 1)) (drop (start + (i + 1)) l))) ≡ e
+  next-other z same so = rw same (rw (next-left, ne-eqb (getD l (start + i) 0) 0 z) at so)

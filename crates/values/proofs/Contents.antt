@@ -1,5 +1,5 @@
 -- The field at an offset, by its bytes: its tag, its length n and its content.
-use Prim.Native.Nat.{ℕ, _+_, _^_, _≤_, _<_}
+use Prim.Native.Nat.{ℕ, _+_, _≤_, _<_}
 use mathlib.Core.Path.{_≡_, refl, sym, ap, _∙_, subst}
 use mathlib.Core.Bool.{Bool, true, false, cond, _||_}
 use mathlib.Core.List.{List}
@@ -10,14 +10,14 @@ use native.Mathlib.Omega.{arith}
 use lib.Dec.{leb, eqb}
 use lib.ListN.{length, take, drop, getD, length-drop, drop-of-length-le}
 use lib.Seq.{drop-cons, drop-drop, length-take-le}
-use borrow.Author.Tests.{le-leb, lt-leb, eq-eqb, ne-eqb, leb-true, leb-false, eqb-true, eqb-false}
+use borrow.Author.Tests.{le-leb, lt-leb, eq-eqb, ne-eqb, leb-true, leb-false, eqb-true}
 use Rattle.definition.specs.Answers.{Checked, refused, accepted, _>>=_, _>>_, require}
 use Rattle.definition.specs.Bytes.{signed}
 use Rattle.definition.specs.Values as definition
 use Rattle.definition.specs.Values.{integer, float, text, other}
 use Rattle.definition.specs.Lists.{bigTotal, valueOf, fieldOf, values}
 use Rattle.definition.proofs.Answers.{true-not-false}
-use Rattle.values.proofs.Fields.{refused-values}
+use Rattle.values.proofs.Fields.{values-by}
 use Rattle.values.specs.Loading.{Loaded}
 use Rattle.values.specs.Meaning.{isAccepted, meaning, Proper, Inside, FloatRead, Standing, placed, fieldAt, sizeAt, Complete, numeric, suits, FieldRead}
 use Rattle.values.specs.declared.Value.{Value}
@@ -126,24 +126,20 @@ module _ (l : List ℕ) (at : ℕ) (known : isAccepted (values (drop at l)) ≡ 
   tag = getD l at 0
 
   not-refused : some (refused 21) ≡ fieldAt l at → ⊥
-  not-refused e = true-not-false (sym known ∙ ap isAccepted (refused-values l at 21 e))
+  not-refused e = true-not-false (sym known ∙ ap isAccepted (values-by l at e))
+
+  sure : (t : Bool) → (t ≡ false → ⊥) → t ≡ true
+  sure true e = refl
+  sure false e = absurd (e refl)
 
   pub within : at + 3 + n ≤ length l
-  within = go (leb (at + 3 + n) (length l)) refl
-    where
-      go : (p : Bool) → leb (at + 3 + n) (length l) ≡ p → at + 3 + n ≤ length l
-      go true e = leb-true (at + 3 + n) (length l) e
-      go false e = absurd (not-refused (cut-short l at h (leb-false (at + 3 + n) (length l) e)))
+  within = leb-true _ _ (sure (leb (at + 3 + n) (length l)) (λ e. not-refused (cut-short l at h (leb-false _ _ e))))
 
   complete : Complete l at n
   complete = record { within = within; size = refl }
 
   suited : suits tag n ≡ true
-  suited = go (suits tag n) (by-suits l at n complete)
-    where
-      go : (p : Bool) → Told l at n complete p (fieldAt l at) → p ≡ true
-      go true e = refl
-      go false e = absurd (not-refused e)
+  suited = sure (suits tag n) (λ e. not-refused (rw e at (by-suits l at n complete)))
 
   -- the field of a value v
   is : (v : Value) (next : ℕ) → at + 3 + n ≡ next → Proper v → Inside l v → valueOf tag (take n (drop (at + 3) l)) ≡ accepted (meaning l v) → FieldRead l at (Found v next)

@@ -11,53 +11,37 @@ use Rattle.definition.specs.Answers.{Checked, refused, accepted, _>>=_}
 use Rattle.definition.specs.Values as definition
 use Rattle.definition.specs.Lists.{bigTotal, fieldOf, valuesPast, values, fieldsAfter}
 use Rattle.definition.proofs.Lists.{past-drop, none-after, after-first}
-use Rattle.values.specs.Meaning.{isAccepted, placed, firstField, fieldAt, sizeAt}
+use Rattle.values.specs.Meaning.{isAccepted, Standing, placed, firstField, fieldAt, sizeAt}
 
 -- the values of a list that begins with w
 abbrev pub beginning : definition.Value → Checked (List definition.Value) → Checked (List definition.Value)
 beginning w c = c >>= λ vs. accepted (w ∷ vs)
 
+-- the values of l from an offset, by the field that stands there
+abbrev continued : List ℕ → Standing → Checked (List definition.Value)
+continued l none = accepted []
+continued l (some (refused k)) = refused k
+continued l (some (accepted (w, next))) = beginning w (values (drop next l))
+
 module _ (l : List ℕ) (at : ℕ) where
-  -- at the end no value is left
-  pub end-values : none ≡ fieldAt l at → values (drop at l) ≡ accepted []
+  values-at : values (drop at l) ≡ continued l (fieldAt l at)
   unfolding fieldAt valuesPast
-  end-values e = go (drop at l) e
+  values-at = go (drop at l) refl
     where
-      go : (s : List ℕ) → none ≡ firstField at s → values s ≡ accepted []
-      go [] e = refl
-      go (t ∷ s) e = absurd (let z : _≡_ {A = ℕ} 0 1 = cc in omega arith)
-
-  -- a list is refused by its first malformed field
-  pub refused-values : (k : ℕ) → some (refused k) ≡ fieldAt l at → values (drop at l) ≡ refused k
-  unfolding fieldAt valuesPast
-  refused-values k e = go (drop at l) e
-    where
-      by : (s : List ℕ) (f : Checked (definition.Value × ℕ)) → some (refused k) ≡ some (placed at f) → (f >>= λ g. valuesPast (g .1) s >>= λ vs. accepted (g .0 ∷ vs)) ≡ refused k
-      by s (refused j) e = cc
-      by s (accepted g) e = absurd (let z : _≡_ {A = ℕ} 0 1 = cc in omega arith)
-
-      go : (s : List ℕ) → some (refused k) ≡ firstField at s → values s ≡ refused k
-      go [] e = absurd (let z : _≡_ {A = ℕ} 0 1 = cc in omega arith)
-      go (t ∷ s) e = by s (fieldOf t s) e
-
-  -- a field's value comes before those of the list after it
-  pub found-values : (w : definition.Value) (next : ℕ) → some (accepted (w, next)) ≡ fieldAt l at → values (drop at l) ≡ beginning w (values (drop next l))
-  unfolding fieldAt valuesPast
-  found-values w next e = go (drop at l) refl e
-    where
-      by : (t : ℕ) (s : List ℕ) (f : Checked (definition.Value × ℕ)) → drop at l ≡ t ∷ s → some (accepted (w, next)) ≡ some (placed at f) → (f >>= λ g. valuesPast (g .1) s >>= λ vs. accepted (g .0 ∷ vs)) ≡ beginning w (values (drop next l))
-      by t s (refused j) d e = absurd (let z : _≡_ {A = ℕ} 0 1 = cc in omega arith)
-      by t s (accepted g) d e =
-          let p : _≡_ {A = definition.Value × ℕ} (w, next) (g .0, at + 1 + g .1) = cc in
-          let v : w ≡ g .0 = ap (λ (q : definition.Value × ℕ). q .0) p in
-          let n : next ≡ at + 1 + g .1 = ap (λ (q : definition.Value × ℕ). q .1) p in
+      by : (t : ℕ) (s : List ℕ) (f : Checked (definition.Value × ℕ)) → drop at l ≡ t ∷ s → (f >>= λ g. valuesPast (g .1) s >>= λ vs. accepted (g .0 ∷ vs)) ≡ continued l (some (placed at f))
+      by t s (refused k) d = refl
+      by t s (accepted g) d =
           let rest : drop (at + 1) l ≡ s = sym (drop-drop 1 at l) ∙ ap (drop 1) d in
-          let same : drop (g .1) s ≡ drop next l = ap (drop (g .1)) (sym rest) ∙ drop-drop (g .1) (at + 1) l ∙ ap (λ (k : ℕ). drop k l) (sym n) in
-          rw (v, past-drop (g .1) s, same)
+          let same : drop (g .1) s ≡ drop (at + 1 + g .1) l = ap (drop (g .1)) (sym rest) ∙ drop-drop (g .1) (at + 1) l in
+          rw (past-drop (g .1) s, same)
 
-      go : (s : List ℕ) → drop at l ≡ s → some (accepted (w, next)) ≡ firstField at s → values s ≡ beginning w (values (drop next l))
-      go [] d e = absurd (let z : _≡_ {A = ℕ} 0 1 = cc in omega arith)
-      go (t ∷ s) d e = by t s (fieldOf t s) d e
+      go : (s : List ℕ) → drop at l ≡ s → values s ≡ continued l (firstField at s)
+      go [] d = refl
+      go (t ∷ s) d = by t s (fieldOf t s) d
+
+  -- none at the end, a refusal by the first malformed field, or a field's value before those of the list after it
+  pub values-by : {f : Standing} → f ≡ fieldAt l at → values (drop at l) ≡ continued l f
+  values-by e = values-at ∙ ap (continued l) (sym e)
 
 -- ---- the same where the list's values are known: what is left of them
 
@@ -69,17 +53,14 @@ pub record Takes (l : List ℕ) (vs : List definition.Value) (w : definition.Val
 
 module _ (l : List ℕ) (at : ℕ) (vs : List definition.Value) (known : values (drop at l) ≡ accepted vs) where
   pub takes-none : none ≡ fieldAt l at → vs ≡ []
-  takes-none e = let h = end-values l at e in cc
+  takes-none e = let h = values-by l at e in cc
 
   pub takes-first : (w : definition.Value) (next : ℕ) → some (accepted (w, next)) ≡ fieldAt l at → Takes l vs w next
-  takes-first w next e = go (values (drop next l)) refl (sym known ∙ found-values l at w next e)
+  takes-first w next e = go (values (drop next l)) refl (sym known ∙ values-by l at e)
     where
       go : (c : Checked (List definition.Value)) → values (drop next l) ≡ c → accepted vs ≡ beginning w c → Takes l vs w next
       go (refused k) d e = absurd (let z : _≡_ {A = ℕ} 0 1 = cc in omega arith)
       go (accepted ws) d e = record { others = ws; is = cc; left = d }
-
-  pub takes-well-formed : (k : ℕ) → some (refused k) ≡ fieldAt l at → ⊥
-  takes-well-formed k e = let h = refused-values l at k e in let z : _≡_ {A = ℕ} 0 1 = cc in omega arith
 
 -- ---- whether all of a list is accepted
 pub accepted-beginning : (w : definition.Value) (c : Checked (List definition.Value)) → isAccepted (beginning w c) ≡ isAccepted c

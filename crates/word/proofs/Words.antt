@@ -6,7 +6,7 @@ use lib.Pow.{pow-lt}
 use mathlib.Core.Path.{_≡_, refl, sym, ap, _∙_, subst}
 use mathlib.Core.Bool.{Bool, true, false, cond}
 use mathlib.Core.Option.{Option, none, some}
-use lib.Dec.{T, ltb, leb→le, eqb→eq}
+use lib.Dec.{T, ltb}
 use lib.IntN.{ℤ, pos, negsuc}
 use lib.Signed.{ltZ, mag}
 use lib.Ieee.{binary64, ofBits}
@@ -22,7 +22,7 @@ use Rattle.definition.specs.declared.Kind.{Kind}
 use Rattle.definition.specs.declared.Kind.the-variants.{SmallSigned, SmallUnsigned, Signed, Unsigned, LuaInteger, LuaUnsigned, Size, Single, Double}
 use Rattle.coder.proofs.Twos.{extent-fits, negative, positive}
 use Rattle.definition.proofs.Bytes.{pow-le}
-use Rattle.definition.proofs.Numbers.{validSize, within-from-1}
+use Rattle.definition.proofs.Numbers.{validSize}
 use Rattle.coder.proofs.Placing.{bits-of-bytes}
 use Rattle.single.specs.Single.{toSingle}
 use Rattle.numbers.specs.Meaning.{wrappedFloat}
@@ -65,10 +65,9 @@ shifted : (k : ℕ) → k < 64 → (1 * 2 ^ k) % 18446744073709551616 ≡ 2 ^ k
 shifted k h = ap (λ (x : ℕ). x % 18446744073709551616) (one-mul (2 ^ k)) ∙ mod-eq-of-lt (pow-lt h)
 
 half : (n : ℕ) → 1 ≤ n → 2 ^ (8 * n - 1) * 2 ≡ 256 ^ n
-half n h = sym (pow-suc 2 (8 * n - 1)) ∙ ap (λ (k : ℕ). 2 ^ k) (next n h) ∙ bits-of-bytes n
-  where
-    next : (n : ℕ) → 1 ≤ n → suc (8 * n - 1) ≡ 8 * n
-    next n h = omega arith
+half n h =
+    let next : suc (8 * n - 1) ≡ 8 * n = omega arith in
+    sym (pow-suc 2 (8 * n - 1)) ∙ ap (λ (k : ℕ). 2 ^ k) next ∙ bits-of-bytes n
 
 double-ltb : (a b c : ℕ) → b * 2 ≡ c → ltb a b ≡ ltb (a * 2) c
 double-ltb a b c e = go (ltb a b) refl
@@ -178,6 +177,10 @@ same-small n w = refl
 
 pub valid-as : {k j : Kind} (n : ℕ) → T (validSize k n) → k ≡ j → T (validSize j n)
 valid-as n h e = subst (λ (x : Kind). T (validSize x n)) e h
+
+-- a pattern has at most eight bytes
+pub of-pattern : {k j : Kind} (n : ℕ) (w : Value) (r : Word) → T (validSize k n) → k ≡ j → (T (validSize j n) → n ≤ 8) → ((m : ℕ) → m ≤ 8 → Says m (word j m w) r) → Says n (word k n w) r
+of-pattern n w r h e few f = of-kind n w r e (f n (few (valid-as n h e)))
 
 pub of-size : (k : Kind) (m n : ℕ) (w : Value) (r : Word) → Says m (word k m w) r → n ≡ m → Says n (word k n w) r
 of-size k m n w r h i = subst (λ (x : ℕ). Says x (word k x w) r) (sym i) h

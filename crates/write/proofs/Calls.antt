@@ -26,7 +26,6 @@ use Rattle.write.specs.Answers.{answerOf, continuedCallOf}
 use Rattle.write.specs.Walks.{valuesOf, summed, FitsAt, putAt}
 use Rattle.write.specs.declared.Total.{Total}
 use Rattle.write.specs.declared.Total.the-variants as Total
-use Rattle.write.specs.declared.Packed.the-variants as Packed
 use Rattle.write.proofs.Stepping.{list-known}
 use Rattle.write.proofs.Pasting.{paste-whole}
 

@@ -13,9 +13,6 @@ returns c = cut-short (now (c .before .before .before .before .args .list)) (c .
 complete : (c : tie.After-known-told) → Complete (now (c .before .before .before .before .before .args .list)) (c .before .before .before .before .before .args .at) (c .before .n .given .0 .0)
 complete c = rw (c .before .n .given .1) at (c .before .before .before .length-at .ensures)
 
-returns-2 : tie.Need-returns-2
-returns-2 c = record { complete = complete (c .before .before .before); tag = sym (c .before .length-suits .ensures) ∙ c .if1 .taken }
-
 returns-3 : tie.Need-returns-3
 returns-3 c =
     let start = c .before .before .before .before .before .before .before .before .args in
@@ -32,5 +29,5 @@ content-at-spec =
     returns
     (λ c. search needs)
     (λ c κs. search needs)
-    returns-2
+    (λ c. record { complete = complete (c .before .before .before); tag = sym (c .before .length-suits .ensures) ∙ c .if1 .taken })
     returns-3)

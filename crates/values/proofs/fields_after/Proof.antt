@@ -23,12 +23,6 @@ Inv-loop list k at₀ left₀ at left = (at ≤ length list) × (fieldsAfter lef
 abbrev μ-loop : tie.MeasureT-loop
 μ-loop list k at₀ left₀ at left = left
 
-loop-holds : tie.Need-loop-holds Inv-loop μ-loop
-loop-holds c = (omega arith, refl)
-
-length-at-requires : tie.Need-length-at-requires Inv-loop μ-loop
-length-at-requires c κs = c .before .loop .inv .0
-
 returns : tie.Need-returns Inv-loop μ-loop
 returns c =
     let l = now (c .before .before .before .before .before .before .args .list) in
@@ -38,18 +32,6 @@ returns c =
 
 complete : (c : tie.After-known-told Inv-loop μ-loop) → Complete (now (c .before .before .before .before .before .before .before .args .list)) (c .before .before .before .before .before .loop .at) (c .before .n .given .0 .0)
 complete c = rw (c .before .n .given .1) at (c .before .before .before .length-at .ensures)
-
-add-at : tie.Need-add-at Inv-loop μ-loop
-add-at c = omega (arith, complete c .within)
-
-add-at-2 : tie.Need-add-at-2 Inv-loop μ-loop
-add-at-2 c = omega (arith, complete c .within)
-
-sub-left : tie.Need-sub-left Inv-loop μ-loop
-sub-left c = c .before .before .before .before .loop-test .taken
-
-loop-less : tie.Need-loop-less Inv-loop μ-loop
-loop-less c = omega (arith, c .before .before .before .before .loop-test .taken)
 
 loop-again : tie.Need-loop-again Inv-loop μ-loop
 loop-again c =
@@ -72,14 +54,14 @@ fields-after-spec =
     (tie.spec
     Inv-loop
     μ-loop
-    loop-holds
-    length-at-requires
+    (λ c. (omega arith, refl))
+    (λ c κs. c .before .loop .inv .0)
     (λ c. search needs)
     (λ c. search needs)
     returns
-    add-at
-    add-at-2
-    sub-left
-    loop-less
+    (λ c. omega (arith, complete c .within))
+    (λ c. omega (arith, complete c .within))
+    (λ c. c .before .before .before .before .loop-test .taken)
+    (λ c. omega (arith, c .before .before .before .before .loop-test .taken))
     loop-again
     returns-2)

@@ -16,9 +16,6 @@ no-nan b h = subst (λ (t : Bool). T (not t)) (sym (nanBits-above binary64 b ∙
 float-no-nan : (b : ℕ) → b % 2 ^ 63 ≤ 0x7ff0_0000_0000_0000 → T (not (isNan (ofBits binary64 b)))
 float-no-nan b h = subst (λ (t : Bool). T (not t)) (nanBits-is binary64 b) (no-nan b h)
 
-float-from-bits-t5 : tie.Need-float-from-bits-t5
-float-from-bits-t5 c = no-nan (c .before .args .b) (c .if1 .left)
-
 returns : tie.Need-returns
 returns c = record { says = λ l. refl; proper = subst T (sym (nanBits-above binary64 (c .before .args .b) ∙ lt-ltb _ _ (c .if1 .taken))) tt; inside = λ l. tt }
 
@@ -29,4 +26,4 @@ returns-2 c =
     record { says = λ l. ap float (toBits-ofBits binary64 b (c .before .fits .b .fits) f); proper = f; inside = λ l. tt }
 
 pub float-of-spec : {M : Type 1} → statement M
-float-of-spec = tie.close (tie.spec float-from-bits-t5 returns returns-2)
+float-of-spec = tie.close (tie.spec (λ c. no-nan (c .before .args .b) (c .if1 .left)) returns returns-2)

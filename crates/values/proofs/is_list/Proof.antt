@@ -8,7 +8,7 @@ use borrow.Author.Needs.{needs}
 use Rattle.definition.specs.Lists.{valuesPast, values}
 use Rattle.values.specs.Meaning.{isAccepted, Whole}
 use Rattle.values.proofs.Contents.{by-suits}
-use Rattle.values.proofs.Fields.{refused-values, found-values, accepted-beginning}
+use Rattle.values.proofs.Fields.{values-by, accepted-beginning}
 use Rattle.values.proofs.is_list.Statement.{statement}
 use Rattle.values.proofs.is_list.Tie as tie
 
@@ -18,20 +18,8 @@ Inv-loop list at₀ at = isAccepted (values (drop at list)) ≡ isAccepted (valu
 abbrev μ-loop : tie.MeasureT-loop
 μ-loop list at₀ at = length list - at
 
-content-at-requires : tie.Need-content-at-requires Inv-loop μ-loop
-content-at-requires c κs = c .loop-test .taken
-
 whole : (c : tie.After-known-told Inv-loop μ-loop) → Whole (now (c .before .before .before .before .before .before .before .args .list)) (c .before .before .before .before .before .loop .at) (c .before .n .given .0 .0)
 whole c = rw (c .before .n .given .1) at (c .before .before .before .content-at .ensures)
-
-add-at : tie.Need-add-at Inv-loop μ-loop
-add-at c = omega (arith, whole c .complete .within)
-
-add-at-2 : tie.Need-add-at-2 Inv-loop μ-loop
-add-at-2 c = omega (arith, whole c .complete .within)
-
-loop-less : tie.Need-loop-less Inv-loop μ-loop
-loop-less c = omega (arith, c .before .before .before .before .loop-test .taken)
 
 loop-again : tie.Need-loop-again Inv-loop μ-loop
 loop-again c =
@@ -40,13 +28,13 @@ loop-again c =
     let next = i .at + 3 + c .before .n .given .0 .0 in
     let h = whole c in
     let f = rw (h .tag) at (by-suits l (i .at) (c .before .n .given .0 .0) (h .complete)) in
-    sym (accepted-beginning (f .0) (values (drop next l))) ∙ ap isAccepted (sym (found-values l (i .at) (f .0) next (f .1))) ∙ i .inv
+    sym (accepted-beginning (f .0) (values (drop next l))) ∙ ap isAccepted (sym (values-by l (i .at) (f .1))) ∙ i .inv
 
 returns : tie.Need-returns Inv-loop μ-loop
 returns c =
     let l = now (c .before .before .before .before .before .before .args .list) in
     let i = c .before .before .before .before .loop in
-    ap isAccepted (sym (refused-values l (i .at) 21 (rw (c .enum-told .given .1) at (c .before .before .content-at .ensures)))) ∙ i .inv
+    ap isAccepted (sym (values-by l (i .at) (rw (c .enum-told .given .1) at (c .before .before .content-at .ensures)))) ∙ i .inv
 
 returns-2 : tie.Need-returns-2 Inv-loop μ-loop
 unfolding valuesPast
@@ -62,11 +50,11 @@ is-list-spec =
     Inv-loop
     μ-loop
     (λ c. refl)
-    content-at-requires
+    (λ c κs. c .loop-test .taken)
     (λ c. search needs)
-    add-at
-    add-at-2
-    loop-less
+    (λ c. omega (arith, whole c .complete .within))
+    (λ c. omega (arith, whole c .complete .within))
+    (λ c. omega (arith, c .before .before .before .before .loop-test .taken))
     loop-again
     (λ c. search needs)
     returns

@@ -10,8 +10,5 @@ use Rattle.word.proofs.in_range.Tie as tie
 returns : tie.Need-returns
 returns c = λ n. says-integer n _ _ (c .before .before .fits .z .sfits) (c .to-word .ensures) (ap (λ (t : Bool). rangedOr t (c .before .before .args .z)) (c .before .if1 .taken))
 
-returns-2 : tie.Need-returns-2
-returns-2 c = λ n. says-refused n _ (ap (λ (t : Bool). rangedOr t (c .before .args .z)) (c .if1 .left))
-
 pub in-range-spec : {M : Type 1} → statement M
-in-range-spec = tie.close (tie.spec (λ c κs. search needs) returns returns-2)
+in-range-spec = tie.close (tie.spec (λ c κs. search needs) returns (λ c. λ n. says-refused n _ (ap (λ (t : Bool). rangedOr t (c .before .args .z)) (c .if1 .left))))

@@ -7,12 +7,9 @@ use borrow.Author.Needs.{needs}
 use Rattle.word.proofs.in_signed.Statement.{statement}
 use Rattle.word.proofs.in_signed.Tie as tie
 
-returns : tie.Need-returns
-returns c = sym (signed-wide (c .before .args .size) (c .before .args .z) (c .if1 .taken) (c .before .fits .z))
-
 returns-2 : tie.Need-returns-2
 returns-2 c = signed-narrow (c .before .before .args .size) (c .before .before .args .z) (c .extent .result) (c .before .before .pre) (c .before .if1 .left) (c .extent .ensures ∙ ap extent (toZ-ofZ (c .before .before .fits .z)))
 
 pub in-signed-spec : {M : Type 1} → statement M
 in-signed-spec =
-    tie.close (tie.spec returns (λ c κs. search needs) (λ c. search needs) (λ c. search needs) (λ c. search needs) returns-2)
+    tie.close (tie.spec (λ c. sym (signed-wide (c .before .args .size) (c .before .args .z) (c .if1 .taken) (c .before .fits .z))) (λ c κs. search needs) (λ c. search needs) (λ c. search needs) (λ c. search needs) returns-2)

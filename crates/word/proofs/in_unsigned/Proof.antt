@@ -7,9 +7,6 @@ use borrow.Author.Needs.{needs}
 use Rattle.word.proofs.in_unsigned.Statement.{statement}
 use Rattle.word.proofs.in_unsigned.Tie as tie
 
-returns : tie.Need-returns
-returns c = sym (unsigned-negative (c .before .args .size) (c .before .args .z) (c .before .fits .z) (c .if1 .taken))
-
 returns-2 : tie.Need-returns-2
 returns-2 c = sym (unsigned-wide (c .before .before .args .size) (c .before .before .args .z) (c .before .before .fits .z) (c .before .if1 .left) (c .if2 .taken))
 
@@ -18,4 +15,4 @@ returns-3 c = unsigned-narrow (c .before .before .before .args .size) (c .before
 
 pub in-unsigned-spec : {M : Type 1} → statement M
 in-unsigned-spec =
-    tie.close (tie.spec returns returns-2 (λ c κs. search needs) (λ c. search needs) (λ c. search needs) returns-3)
+    tie.close (tie.spec (λ c. sym (unsigned-negative (c .before .args .size) (c .before .args .z) (c .before .fits .z) (c .if1 .taken))) returns-2 (λ c κs. search needs) (λ c. search needs) (λ c. search needs) returns-3)

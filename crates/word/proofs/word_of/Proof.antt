@@ -5,7 +5,7 @@ use lib.Dec.{leb→le, eqb→eq}
 use Rattle.definition.specs.declared.Kind.the-variants.{LuaUnsigned}
 use Rattle.definition.proofs.Numbers.{within-from-1}
 use Rattle.word.specs.Words.{patternOr}
-use Rattle.word.proofs.Words.{says-as, of-kind, of-size, valid-as, same-small, double-word}
+use Rattle.word.proofs.Words.{says-as, of-kind, of-pattern, of-size, valid-as, same-small, double-word}
 use borrow.Author.Needs.{needs}
 use Rattle.word.proofs.word_of.Statement.{statement}
 use Rattle.word.proofs.word_of.Tie as tie
@@ -23,11 +23,7 @@ returns-4 : tie.Need-returns-4
 returns-4 c = let a = c .before .before .before .args in λ l. of-kind (a .size) _ (c .unsigned .result) (c .before .enum-told4 .given .1) (c .unsigned .ensures l)
 
 returns-5 : tie.Need-returns-5
-returns-5 c =
-    let s = c .before .before .before in
-    let n = s .args .size in
-    let e = c .before .enum-told5 .given .1 in
-    λ l. of-kind n _ (c .lua-integer .result) e (c .lua-integer .ensures l n (omega (arith, eqb→eq n 8 (valid-as n (s .pre .1) e))))
+returns-5 c = let s = c .before .before .before in λ l. of-pattern (s .args .size) _ (c .lua-integer .result) (s .pre .1) (c .before .enum-told5 .given .1) (λ t. omega (arith, eqb→eq (s .args .size) 8 t)) (c .lua-integer .ensures l)
 
 returns-6 : tie.Need-returns-6
 returns-6 c =
@@ -37,18 +33,10 @@ returns-6 c =
     λ l. of-kind n _ (c .lua-unsigned .result) e (of-size LuaUnsigned 8 n _ (c .lua-unsigned .result) (c .lua-unsigned .ensures l) (eqb→eq n 8 (valid-as n (s .pre .1) e)))
 
 returns-7 : tie.Need-returns-7
-returns-7 c =
-    let s = c .before .before .before in
-    let n = s .args .size in
-    let e = c .before .enum-told7 .given .1 in
-    λ l. of-kind n _ (c .size-word .result) e (c .size-word .ensures l n (leb→le n 8 (valid-as n (s .pre .1) e)))
+returns-7 c = let s = c .before .before .before in λ l. of-pattern (s .args .size) _ (c .size-word .result) (s .pre .1) (c .before .enum-told7 .given .1) (leb→le (s .args .size) 8) (c .size-word .ensures l)
 
 returns-8 : tie.Need-returns-8
-returns-8 c =
-    let s = c .before .before .before in
-    let n = s .args .size in
-    let e = c .before .enum-told8 .given .1 in
-    λ l. of-kind n _ (c .single .result) e (c .single .ensures l n (omega (arith, eqb→eq n 4 (valid-as n (s .pre .1) e))))
+returns-8 c = let s = c .before .before .before in λ l. of-pattern (s .args .size) _ (c .single .result) (s .pre .1) (c .before .enum-told8 .given .1) (λ t. omega (arith, eqb→eq (s .args .size) 4 t)) (c .single .ensures l)
 
 returns-9 : tie.Need-returns-9
 returns-9 c =

@@ -42,9 +42,6 @@ returns c =
 returns-2 : tie.Need-returns-2
 returns-2 c = let x = c .before .before in text-refused (begun (x .before .before)) (found x) (chars-long _ (found x) _ (c .if2 .taken))
 
-returns-3 : tie.Need-returns-3
-returns-3 c = let t = c .before .before .before in text-missing (begun t) (rw (c .before .k .given .1) at (t .text-at .ensures))
-
 returns-4 : tie.Need-returns-4
 returns-4 c =
     let x = c .before .before .before in
@@ -63,5 +60,5 @@ chars-spec =
     returns-2
     (λ c. search needs)
     put-text-requires
-    returns-3
+    (λ c. let t = c .before .before .before in text-missing (begun t) (rw (c .before .k .given .1) at (t .text-at .ensures)))
     returns-4)

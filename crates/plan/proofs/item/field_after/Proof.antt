@@ -4,7 +4,6 @@ use Rattle.definition.specs.Answers.{accepted}
 use Rattle.definition.specs.States.{natural, padding}
 use Rattle.definition.specs.declared.Field.{Field}
 use Rattle.align.specs.Amounts.{amountOf}
-use Rattle.plan.specs.Plans.{ItemAt}
 use Rattle.plan.proofs.Plans.{unaligned, field-as, of-field}
 use borrow.Author.Needs.{needs}
 use Rattle.plan.proofs.item.field_after.Statement.{statement}

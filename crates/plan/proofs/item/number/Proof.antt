@@ -20,10 +20,9 @@ returns c =
 
 returns-2 : tie.Need-returns-2
 returns-2 c =
-    let f = c .before .before in
-    let s = f .before .before in
+    let s = c .before .before .before .before in
     let a = s .args in
-    number-none (a .list .now) (a .at) (a .s) (a .kind) (a .size) _ (s .pre .1 .1 .0) (rw (c .enum-told .given .1) at (f .field-at .ensures))
+    number-none (a .list .now) (a .at) (a .s) (a .kind) (a .size) _ (s .pre .1 .1 .0) (rw (c .enum-told .given .1) at (c .before .before .field-at .ensures))
 
 pub number-spec : {M : Type 1} → statement M
 number-spec =

@@ -7,9 +7,7 @@ use Rattle.plan.proofs.item.plan_of.Statement.{statement}
 use Rattle.plan.proofs.item.plan_of.Tie as tie
 
 returns : tie.Need-returns
-returns c =
-    let a = c .before .before .before .args in
-    of-op (a .list .now) (a .at) (a .s) (a .op) Op.Blank Plan.Skip (skips (a .list .now) (a .at) (a .s)) (c .enum-told .given .1)
+returns c = let a = c .before .before .before .args in of-op (a .list .now) (a .at) (a .s) (a .op) Op.Blank Plan.Skip (skips (a .list .now) (a .at) (a .s)) (c .enum-told .given .1)
 
 returns-2 : tie.Need-returns-2
 returns-2 c =
@@ -18,14 +16,10 @@ returns-2 c =
     of-op (a .list .now) (a .at) (a .s) (a .op) (Op.Set x) (Plan.Set x) (sets-state (a .list .now) (a .at) (a .s) x) (c .before .op .given .1)
 
 returns-3 : tie.Need-returns-3
-returns-3 c =
-    let a = c .before .before .before .before .before .args in
-    of-op (a .list .now) (a .at) (a .s) (a .op) _ (c .pad .result) (λ vs known. c .pad .ensures (a .list .now) vs) (c .before .before .op2 .given .1)
+returns-3 c = let a = c .before .before .before .before .before .args in of-op (a .list .now) (a .at) (a .s) (a .op) _ (c .pad .result) (λ vs known. c .pad .ensures (a .list .now) vs) (c .before .before .op2 .given .1)
 
 returns-4 : tie.Need-returns-4
-returns-4 c =
-    let a = c .before .before .before .before .before .args in
-    of-op (a .list .now) (a .at) (a .s) (a .op) _ (c .field .result) (c .field .ensures) (c .before .before .op3 .given .1)
+returns-4 c = let a = c .before .before .before .before .before .args in of-op (a .list .now) (a .at) (a .s) (a .op) _ (c .field .result) (c .field .ensures) (c .before .before .op3 .given .1)
 
 pub plan-of-spec : {M : Type 1} → statement M
 plan-of-spec =

@@ -11,10 +11,7 @@ returns c =
     text-found (a .list .now) (a .at) _ _ (c .text-of .result) (rw (c .before .before .v .given .1) at (f .field-at .ensures)) (c .text-of .ensures)
 
 returns-2 : tie.Need-returns-2
-returns-2 c =
-    let f = c .before .before in
-    let a = f .before .before .args in
-    text-none (a .list .now) (a .at) (rw (c .enum-told .given .1) at (f .field-at .ensures))
+returns-2 c = let a = c .before .before .before .before .args in text-none (a .list .now) (a .at) (rw (c .enum-told .given .1) at (c .before .before .field-at .ensures))
 
 pub text-at-spec : {M : Type 1} → statement M
 text-at-spec =

@@ -29,9 +29,6 @@ emit-zeros-requires c κs =
     let s = entry (x .before .before) in
     zeros-room (plan (x .before .before) (x .n .given .1)) (s .args .put) _ (s .args .w) (s .pre .1 .1 .1 .1 .1)
 
-further-requires : tie.Need-further-requires
-further-requires c κs = let x = c .before .before .before .before .before in plan (x .before .before) (x .n .given .1) .says .room
-
 emit-number-requires : tie.Need-emit-number-requires
 emit-number-requires c κs =
     let x = c .before .before in
@@ -110,7 +107,7 @@ advance-spec =
     (λ c κs. entry (c .before .before .before .before) .pre .1 .1 .0)
     (λ c. search needs)
     emit-zeros-requires
-    further-requires
+    (λ c κs. let x = c .before .before .before .before .before in plan (x .before .before) (x .n .given .1) .says .room)
     (λ c κs. entry (c .before .before .before .before .before .before .before .before) .pre .1 .1 .0)
     (λ c. search needs)
     emit-number-requires
