@@ -4,8 +4,5 @@ use Rattle.align.proofs.States.{leb-less}
 use Rattle.align.proofs.fits.Statement.{statement}
 use Rattle.align.proofs.fits.Tie as tie
 
-returns : tie.Need-returns
-returns c = leb-less (c .before .args .s .length) (c .before .args .n) _ (c .before .pre)
-
 pub fits-spec : {M : Type 1} → statement M
-fits-spec = tie.close (tie.spec (λ c. search needs) returns)
+fits-spec = tie.close (tie.spec (λ c. search needs) (λ c. leb-less (c .before .args .s .length) (c .before .args .n) _ (c .before .pre)))

@@ -7,14 +7,5 @@ use borrow.Author.Needs.{needs}
 use Rattle.align.proofs.longer.Statement.{statement}
 use Rattle.align.proofs.longer.Tie as tie
 
-returns : tie.Need-returns
-returns c = sym (longer-past _ _ (omega arith))
-
-returns-2 : tie.Need-returns-2
-returns-2 c = sym (longer-past _ _ (omega arith))
-
-returns-3 : tie.Need-returns-3
-returns-3 c = ap accepted (c .further .ensures) ∙ sym (longer-fits (c .before .before .before .before .args .s) _ (omega arith))
-
 pub longer-spec : {M : Type 1} → statement M
-longer-spec = tie.close (tie.spec returns returns-2 (λ c κs. search needs) returns-3)
+longer-spec = tie.close (tie.spec (λ c. sym (longer-past _ _ (omega arith))) (λ c. sym (longer-past _ _ (omega arith))) (λ c κs. search needs) (λ c. ap accepted (c .further .ensures) ∙ sym (longer-fits (c .before .before .before .before .args .s) _ (omega arith))))

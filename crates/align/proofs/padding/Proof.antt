@@ -8,12 +8,6 @@ use borrow.Author.Needs.{needs}
 use Rattle.align.proofs.padding.Statement.{statement}
 use Rattle.align.proofs.padding.Tie as tie
 
-returns : tie.Need-returns
-returns c = sym (padding-one _ _ _ (c .before .lesser .ensures) (c .if1 .taken))
-
-sub-t7 : tie.Need-sub-t7
-sub-t7 c = omega (arith, power-least (c .before .before .before .before .lesser .result) (sym (c .before .before .is-power .ensures) ∙ c .before .if2 .taken))
-
 returns-2 : tie.Need-returns-2
 returns-2 c =
     let a = c .before .before .before .before in
@@ -21,17 +15,14 @@ returns-2 c =
     ap accepted (power-fill (c .wrapping-sub-u64 .result) (a .before .args .s .length) (c .wrapping-sub-u64 .ensures) (a .lesser .result) p)
     ∙ sym (padding-power _ _ _ (a .lesser .ensures) p)
 
-returns-3 : tie.Need-returns-3
-returns-3 c = sym (padding-other _ _ _ (c .before .before .before .lesser .ensures) (sym (c .before .is-power .ensures) ∙ c .if2 .left))
-
 pub padding-spec : {M : Type 1} → statement M
 padding-spec =
     tie.close
     (tie.spec
     (λ c κs. search needs)
-    returns
+    (λ c. sym (padding-one _ _ _ (c .before .lesser .ensures) (c .if1 .taken)))
     (λ c κs. search needs)
     (λ c κs. search needs)
-    sub-t7
+    (λ c. omega (arith, power-least (c .before .before .before .before .lesser .result) (sym (c .before .before .is-power .ensures) ∙ c .before .if2 .taken)))
     returns-2
-    returns-3)
+    (λ c. sym (padding-other _ _ _ (c .before .before .before .lesser .ensures) (sym (c .before .is-power .ensures) ∙ c .if2 .left))))
