@@ -34,9 +34,6 @@ read-digits-below t =
 abbrev claims : ℕ → read-digits-lts.Claims
 claims t = (digit-on-reads.Asked, digit-on-reads.Learnt, read-digits-below t, read-digits.Post)
 
-read-digits-digit-on-requires : (t : ℕ) → read-digits-lts.Need-digit-on-requires (claims t) (read-digits-at t) read-digits.Post
-read-digits-digit-on-requires t c κs = tt
-
 -- the digits of the bytes left, by the first of them
 decided : (t : ℕ) (c : read-digits-lts.After-digit-on (claims t) (read-digits-at t) read-digits.Post) (x : Digit) → c .digit-on .result ≡ x
     → let a = c .before .before .before .before .args in
@@ -55,33 +52,12 @@ inside t c =
     let a = c .before .before .before .before .before .before .args in
     more-inside (now (a .n)) (now (now (a .text))) (now (a .at)) (a .left) _ (sym (c .before .before .digit-on .ensures) ∙ c .m .given .1)
 
-read-digits-enum-told : (t : ℕ) → read-digits-lts.Need-enum-told (claims t) (read-digits-at t) read-digits.Post
-read-digits-enum-told t c = c .match .keys1
-
-read-digits-enum-told-2 : (t : ℕ) → read-digits-lts.Need-enum-told-2 (claims t) (read-digits-at t) read-digits.Post
-read-digits-enum-told-2 t c = c .match .keys2
-
-read-digits-enum-known-m : (t : ℕ) → read-digits-lts.Need-enum-known-m (claims t) (read-digits-at t) read-digits.Post
-read-digits-enum-known-m t c = c .match .keys3
-
 read-digits-add-at : (t : ℕ) → read-digits-lts.Need-add-at (claims t) (read-digits-at t) read-digits.Post
 read-digits-add-at t c =
     let b = c .before .before .before .before .before .before .before in
     let short = b .pre .1 in
     let h : now (b .args .at) + 1 < 2 ^ 64 = omega (arith, inside t (c .before) .0) in
     record { fits = h }
-
-read-digits-sub-read-digits : (t : ℕ) → read-digits-lts.Need-sub-read-digits (claims t) (read-digits-at t) read-digits.Post
-read-digits-sub-read-digits t c = inside t (c .before .before .before) .1
-
-read-digits-read-digits-requires : (t : ℕ) → read-digits-lts.Need-read-digits-requires (claims t) (read-digits-at t) read-digits.Post
-read-digits-read-digits-requires t c κs = (omega (arith, inside t (c .before .before .before) .1), c .before .before .before .before .before .before .before .before .before .pre .1)
-
-read-digits-returns : (t : ℕ) → read-digits-lts.Need-returns (claims t) (read-digits-at t) read-digits.Post
-read-digits-returns t c = decided t (c .before .before) Stop (c .enum-told .given .1)
-
-read-digits-returns-2 : (t : ℕ) → read-digits-lts.Need-returns-2 (claims t) (read-digits-at t) read-digits.Post
-read-digits-returns-2 t c = decided t (c .before .before) TooLarge (c .enum-told2 .given .1)
 
 read-digits-returns-3 : (t : ℕ) → read-digits-lts.Need-returns-3 (claims t) (read-digits-at t) read-digits.Post
 read-digits-returns-3 t c =
@@ -97,13 +73,13 @@ pub +read-digits-spec : {M : Type 1} → statement M
 +read-digits-spec = close μ-read-digits λ t. read-digits-lts.spec (claims t)
     (read-digits-at t)
     read-digits.Post
-    (read-digits-digit-on-requires t)
-    (read-digits-enum-told t)
-    (read-digits-enum-told-2 t)
-    (read-digits-enum-known-m t)
+    (λ c κs. tt)
+    (λ c. c .match .keys1)
+    (λ c. c .match .keys2)
+    (λ c. c .match .keys3)
     (read-digits-add-at t)
-    (read-digits-sub-read-digits t)
-    (read-digits-read-digits-requires t)
-    (read-digits-returns t)
-    (read-digits-returns-2 t)
+    (λ c. inside t (c .before .before .before) .1)
+    (λ c κs. (omega (arith, inside t (c .before .before .before) .1), c .before .before .before .before .before .before .before .before .before .pre .1))
+    (λ c. decided t (c .before .before) Stop (c .enum-told .given .1))
+    (λ c. decided t (c .before .before) TooLarge (c .enum-told2 .given .1))
     (read-digits-returns-3 t)

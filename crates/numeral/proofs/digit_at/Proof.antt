@@ -17,8 +17,5 @@ returns-2 c =
     let a = c .before .before .before .args in
     sym (first-at (now (a .text)) (a .at) (c .before .before .if1 .taken) ∙ rw (lt-leb _ _ (c .if2 .left)))
 
-returns-3 : tie.Need-returns-3
-returns-3 c = sym (first-past (now (c .before .args .text)) (c .before .args .at) (c .if1 .left))
-
 pub digit-at-spec : {M : Type 1} → statement M
-digit-at-spec = tie.close (tie.spec (λ c. search needs) returns returns-2 returns-3)
+digit-at-spec = tie.close (tie.spec (λ c. search needs) returns returns-2 (λ c. sym (first-past (now (c .before .args .text)) (c .before .args .at) (c .if1 .left))))

@@ -13,9 +13,6 @@ use Rattle.numeral.specs.declared.Digit.the-variants.{More}
 use Rattle.numeral.proofs.digit_on.Statement.{statement}
 use Rattle.numeral.proofs.digit_on.Tie as tie
 
-returns : tie.Need-returns
-returns c = let a = c .before .before .args in sym (on-end (a .n) (drop (a .at) (now (a .text))) (a .left) (c .if1 .taken))
-
 returns-2 : tie.Need-returns-2
 returns-2 c =
     let a = c .before .before .before .before .args in
@@ -24,9 +21,6 @@ returns-2 c =
 -- past the second test a digit stands there
 digit : (c : tie.Else2) → let a = c .before .before .before .before .args in digitFirst (drop (a .at) (now (a .text))) ≡ true
 digit c = sym (c .before .digit-at .ensures) ∙ not-false _ (c .if2 .left)
-
-digit-value-requires : tie.Need-digit-value-requires
-digit-value-requires c κs = digit c
 
 returns-3 : tie.Need-returns-3
 returns-3 c =
@@ -51,10 +45,10 @@ pub digit-on-spec : {M : Type 1} → statement M
 digit-on-spec =
     tie.close
     (tie.spec
-    returns
+    (λ c. let a = c .before .before .args in sym (on-end (a .n) (drop (a .at) (now (a .text))) (a .left) (c .if1 .taken)))
     (λ c κs. search needs)
     returns-2
-    digit-value-requires
+    (λ c κs. digit c)
     returns-3
     (λ c. search needs)
     (λ c. search needs)

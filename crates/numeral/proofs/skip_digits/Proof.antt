@@ -23,15 +23,6 @@ abbrev μ-loop : tie.MeasureT-loop
 digit : (c : tie.Then1 Inv-loop μ-loop) → digitFirst (drop (c .before .before .loop .i) (c .before .before .before .before .args .text .now)) ≡ true
 digit c = sym (c .before .digit-at .ensures) ∙ c .if1 .taken
 
-add-i : tie.Need-add-i Inv-loop μ-loop
-add-i c = omega (arith, first-inside (c .before .before .before .before .args .text .now) (c .before .before .loop .i) (digit c))
-
-loop-less : tie.Need-loop-less Inv-loop μ-loop
-loop-less c = omega (arith, first-inside (c .before .before .before .before .args .text .now) (c .before .before .loop .i) (digit c))
-
-loop-again : tie.Need-loop-again Inv-loop μ-loop
-loop-again c = digit-length (c .before .before .before .before .args .text .now) (c .before .before .loop .i) (digit c) ∙ c .before .before .loop .inv
-
 returns : tie.Need-returns Inv-loop μ-loop
 returns c =
     let s = c .before .before .before .before .args .text .now in
@@ -42,4 +33,4 @@ returns c =
 pub skip-digits-spec : {M : Type 1} → statement M
 skip-digits-spec =
     tie.close
-    (tie.spec Inv-loop μ-loop (λ c. refl) (λ c κs. search needs) add-i loop-less loop-again returns)
+    (tie.spec Inv-loop μ-loop (λ c. refl) (λ c κs. search needs) (λ c. omega (arith, first-inside (c .before .before .before .before .args .text .now) (c .before .before .loop .i) (digit c))) (λ c. omega (arith, first-inside (c .before .before .before .before .args .text .now) (c .before .before .loop .i) (digit c))) (λ c. digit-length (c .before .before .before .before .args .text .now) (c .before .before .loop .i) (digit c) ∙ c .before .before .loop .inv) returns)
