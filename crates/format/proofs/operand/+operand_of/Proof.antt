@@ -34,37 +34,10 @@ operand-of-below t =
 abbrev claims : ℕ → operand-of-lts.Claims
 claims t = (by-numeral-reads.Asked, by-numeral-reads.Learnt, behind-x-reads.Asked, behind-x-reads.Learnt, operand-of-below t, operand-of.Post, one-more-reads.Asked, one-more-reads.Learnt)
 
-operand-of-by-numeral-requires : (t : ℕ) → operand-of-lts.Need-by-numeral-requires (claims t) (operand-of-at t) operand-of.Post
-operand-of-by-numeral-requires t c κs = (c .before .before .pre .1 .1, c .if1 .taken)
-
-operand-of-returns : (t : ℕ) → operand-of-lts.Need-returns (claims t) (operand-of-at t) operand-of.Post
-operand-of-returns t c = c .by-numeral .ensures (tableAt (c .before .before .before .args .table .now))
-
 operand-of-returns-2 : (t : ℕ) → operand-of-lts.Need-returns-2 (claims t) (operand-of-at t) operand-of.Post
 operand-of-returns-2 t c =
     let a = c .before .before .before .args in
     operand-none (tableAt (a .table .now)) (a .e) (c .if2 .taken) (a .rest .now)
-
-operand-of-behind-x-requires : (t : ℕ) → operand-of-lts.Need-behind-x-requires (claims t) (operand-of-at t) operand-of.Post
-operand-of-behind-x-requires t c κs = c .before .before .before .pre .1 .0
-
-operand-of-enum-known-k : (t : ℕ) → operand-of-lts.Need-enum-known-k (claims t) (operand-of-at t) operand-of.Post
-operand-of-enum-known-k t c = c .match .keys1
-
-operand-of-enum-known-n : (t : ℕ) → operand-of-lts.Need-enum-known-n (claims t) (operand-of-at t) operand-of.Post
-operand-of-enum-known-n t c = c .match .keys2
-
-operand-of-enum-known-f : (t : ℕ) → operand-of-lts.Need-enum-known-f (claims t) (operand-of-at t) operand-of.Post
-operand-of-enum-known-f t c = c .match .keys3
-
-operand-of-sub-operand-of : (t : ℕ) → operand-of-lts.Need-sub-operand-of (claims t) (operand-of-at t) operand-of.Post
-operand-of-sub-operand-of t c = (rw (c .before .f .given .1) at (c .before .before .before .behind-x .ensures .1)) .1
-
-operand-of-part-operand-of-start : (t : ℕ) → operand-of-lts.Need-part-operand-of-start (claims t) (operand-of-at t) operand-of.Post
-operand-of-part-operand-of-start t c = (rw (c .before .f .given .1) at (c .before .before .before .behind-x .ensures .1)) .1
-
-operand-of-part-operand-of-end : (t : ℕ) → operand-of-lts.Need-part-operand-of-end (claims t) (operand-of-at t) operand-of.Post
-operand-of-part-operand-of-end t c = le-refl _
 
 operand-of-operand-of-requires : (t : ℕ) → operand-of-lts.Need-operand-of-requires (claims t) (operand-of-at t) operand-of.Post
 operand-of-operand-of-requires t c κs =
@@ -109,16 +82,16 @@ pub +operand-of-spec : {M : Type 1} → statement M
 +operand-of-spec = close μ-operand-of λ t. operand-of-lts.spec (claims t)
     (operand-of-at t)
     operand-of.Post
-    (operand-of-by-numeral-requires t)
-    (operand-of-returns t)
+    (λ c κs. (c .before .before .pre .1 .1, c .if1 .taken))
+    (λ c. c .by-numeral .ensures (tableAt (c .before .before .before .args .table .now)))
     (operand-of-returns-2 t)
-    (operand-of-behind-x-requires t)
-    (operand-of-enum-known-k t)
-    (operand-of-enum-known-n t)
-    (operand-of-enum-known-f t)
-    (operand-of-sub-operand-of t)
-    (operand-of-part-operand-of-start t)
-    (operand-of-part-operand-of-end t)
+    (λ c κs. c .before .before .before .pre .1 .0)
+    (λ c. c .match .keys1)
+    (λ c. c .match .keys2)
+    (λ c. c .match .keys3)
+    (λ c. (rw (c .before .f .given .1) at (c .before .before .before .behind-x .ensures .1)) .1)
+    (λ c. (rw (c .before .f .given .1) at (c .before .before .before .behind-x .ensures .1)) .1)
+    (λ c. le-refl _)
     (operand-of-operand-of-requires t)
     (operand-of-one-more-requires t)
     (operand-of-returns-3 t)

@@ -6,9 +6,6 @@ use Rattle.format.proofs.Alignments as Natural
 use Rattle.format.proofs.operand.behind_x.Statement.{statement}
 use Rattle.format.proofs.operand.behind_x.Tie as tie
 
-returns : tie.Need-returns
-returns c = let a = c .before .before .args in (Natural.natural-nil (tableAt (now (a .table))) (now (a .rest)) (c .if1 .taken), tt)
-
 returns-2 : tie.Need-returns-2
 returns-2 c =
     let a = c .before .before .before .before .args in
@@ -56,7 +53,7 @@ pub behind-x-spec : {M : Type 1} → statement M
 behind-x-spec =
     tie.close
     (tie.spec
-    returns
+    (λ c. let a = c .before .before .args in (Natural.natural-nil (tableAt (now (a .table))) (now (a .rest)) (c .if1 .taken), tt))
     (λ c. search needs)
     returns-2
     (λ c κs. search needs)

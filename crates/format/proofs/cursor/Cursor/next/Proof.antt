@@ -16,9 +16,6 @@ use Rattle.format.proofs.Operands.{operand-count}
 use Rattle.format.proofs.cursor.Cursor.next.Statement.{statement}
 use Rattle.format.proofs.cursor.Cursor.next.Tie as tie
 
-returns : tie.Need-returns
-returns c = next-end (tableAt (now (c .before .before .args .table))) (now (c .before .before .args .format)) (c .before .before .args .self .at) (c .if1 .taken)
-
 add-t17 : tie.Need-add-t17
 add-t17 c =
     let b = c .before .before .before in
@@ -39,17 +36,11 @@ step c x q =
     let a = b .args in
     next-step (tableAt (now (a .table))) (b .pre) (now (a .format)) (a .self .at) (c .before .before .before .if1 .left) (c .before .entry .result) (c .before .entry .ensures) x (q ∙ c .operand-at .ensures)
 
-returns-2 : tie.Need-returns-2
-returns-2 c = let x = c .before .k .given in step (c .before .before .before) (refused (x .0 .0)) (sym (ap operandOf (x .1)))
-
-returns-3 : tie.Need-returns-3
-returns-3 c = let x = c .before .n .given in step (c .before .before .before) (accepted (x .0 .0, x .0 .1 .0)) (sym (ap operandOf (x .1)))
-
 pub next-spec : {M : Type 1} → statement M
 next-spec =
     tie.close
     (tie.spec
-    returns
+    (λ c. next-end (tableAt (now (c .before .before .args .table))) (now (c .before .before .args .format)) (c .before .before .args .self .at) (c .if1 .taken))
     (λ c. search needs)
     (λ c κs. search needs)
     (λ c. search needs)
@@ -57,5 +48,5 @@ next-spec =
     (λ c. search needs)
     (λ c. search needs)
     add-t17
-    returns-2
-    returns-3)
+    (λ c. let x = c .before .k .given in step (c .before .before .before) (refused (x .0 .0)) (sym (ap operandOf (x .1))))
+    (λ c. let x = c .before .n .given in step (c .before .before .before) (accepted (x .0 .0, x .0 .1 .0)) (sym (ap operandOf (x .1)))))
