@@ -35,39 +35,21 @@ loop-holds c =
     let a = c .before .before .before .args in
     subst (Ran (boundOp (a .data-length)) (tableAt (a .table .now)) _ (a .format .now) (c .before .new .result .at)) (sym (c .start .ensures)) (run-none (boundOp (a .data-length)) (tableAt (a .table .now)) start (a .format .now) _ (c .before .new .ensures))
 
-next-requires : tie.Need-next-requires Inv-loop μ-loop
-next-requires c κs = c .before .before .before .before .pre
-
-enum-told : tie.Need-enum-told Inv-loop μ-loop
-enum-told c = c .match .keys1
-
 returns : tie.Need-returns Inv-loop μ-loop
 returns c =
     let l = c .before .before .before in
     bound-is _ _ _ (run-end (boundOp (l .before .before .before .before .args .data-length)) (l .loop .inv) (sym (c .before .before .next .ensures) ∙ ap nextOf (c .enum-told .given .1)))
-
-enum-known-k : tie.Need-enum-known-k Inv-loop μ-loop
-enum-known-k c = c .match .keys2
 
 returns-2 : tie.Need-returns-2 Inv-loop μ-loop
 returns-2 c =
     let l = c .before .before .before .before in
     bound-is _ _ _ (run-refusal (boundOp (l .before .before .before .before .args .data-length)) (l .loop .inv) (sym (c .before .before .before .next .ensures) ∙ ap nextOf (c .before .k .given .1)))
 
-enum-known-i : tie.Need-enum-known-i Inv-loop μ-loop
-enum-known-i c = c .match .keys3
-
-enum-known-k-2 : tie.Need-enum-known-k-2 Inv-loop μ-loop
-enum-known-k-2 c = c .match2 .keys1
-
 returns-3 : tie.Need-returns-3 Inv-loop μ-loop
 returns-3 c =
     let o = c .before .before .before .before in
     let l = o .before .before .before .before .before in
     bound-is _ _ _ (run-refused (boundOp (l .before .before .before .before .args .data-length)) (l .loop .inv) (item o) (sym (c .before .before .before .bound-op .ensures) ∙ ap stateOf (c .before .k2 .given .1)))
-
-enum-known-t : tie.Need-enum-known-t Inv-loop μ-loop
-enum-known-t c = c .match2 .keys2
 
 loop-less : tie.Need-loop-less Inv-loop μ-loop
 loop-less c =
@@ -91,17 +73,17 @@ bound-by-spec =
     (λ c κs. tt)
     (λ c κs. tt)
     loop-holds
-    next-requires
-    enum-told
+    (λ c κs. c .before .before .before .before .pre)
+    (λ c. c .match .keys1)
     returns
-    enum-known-k
+    (λ c. c .match .keys2)
     returns-2
-    enum-known-i
+    (λ c. c .match .keys3)
     (λ c κs. tt)
     (λ c κs. tt)
-    enum-known-k-2
+    (λ c. c .match2 .keys1)
     returns-3
-    enum-known-t
+    (λ c. c .match2 .keys2)
     (λ c κs. tt)
     loop-less
     loop-again)

@@ -5,9 +5,6 @@ use Rattle.align.specs.Amounts.{amountOf}
 use Rattle.measure.proofs.bound.bound_field.Statement.{statement}
 use Rattle.measure.proofs.bound.bound_field.Tie as tie
 
-returns : tie.Need-returns
-returns c = rw (← c .before .before .before .before .natural .ensures, sym (c .before .before .before .alignment .ensures) ∙ ap amountOf (c .before .k .given .1))
-
 returns-2 : tie.Need-returns-2
 returns-2 c = rw (← c .before .before .before .before .before .natural .ensures, sym (c .before .before .before .before .alignment .ensures) ∙ ap amountOf (c .before .before .enum-told .given .1), ← c .before .most .ensures) (c .longer .ensures)
 
@@ -21,5 +18,5 @@ bound-field-spec =
     (λ c. search needs)
     (λ c κs. search needs)
     (λ c κs. search needs)
-    returns
+    (λ c. rw (← c .before .before .before .before .natural .ensures, sym (c .before .before .before .alignment .ensures) ∙ ap amountOf (c .before .k .given .1)))
     returns-2)

@@ -7,12 +7,6 @@ use Rattle.measure.proofs.Sizes.{bound-21, bound-short}
 use Rattle.measure.proofs.bound.list_bound.Statement.{statement}
 use Rattle.measure.proofs.bound.list_bound.Tie as tie
 
-returns : tie.Need-returns
-returns c = bound-21 (now (c .before .before .args .format)) (c .before .before .args .data-length) (c .if1 .taken)
-
-bound-by-requires : tie.Need-bound-by-requires
-bound-by-requires c κs = subst Sizes (sym (c .before .table .ensures)) options-sizes
-
 returns-2 : tie.Need-returns-2
 returns-2 c =
     let i = c .before .before .before in
@@ -20,4 +14,4 @@ returns-2 c =
     c .bound-by .ensures ∙ bound-short _ (c .before .before .table .ensures) (now (a .format)) (a .data-length) (i .if1 .left)
 
 pub list-bound-spec : {M : Type 1} → statement M
-list-bound-spec = tie.close (tie.spec returns (λ c κs. search needs) bound-by-requires returns-2)
+list-bound-spec = tie.close (tie.spec (λ c. bound-21 (now (c .before .before .args .format)) (c .before .before .args .data-length) (c .if1 .taken)) (λ c κs. search needs) (λ c κs. subst Sizes (sym (c .before .table .ensures)) options-sizes) returns-2)

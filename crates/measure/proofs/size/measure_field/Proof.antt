@@ -5,9 +5,6 @@ use borrow.Author.Needs.{needs}
 use Rattle.measure.proofs.size.measure_field.Statement.{statement}
 use Rattle.measure.proofs.size.measure_field.Tie as tie
 
-returns : tie.Need-returns
-returns c = rw (sym (c .before .before .before .size-of .ensures) ∙ ap amountOf (c .before .k .given .1))
-
 returns-2 : tie.Need-returns-2
 returns-2 c =
     let x = c .before .before .before in
@@ -22,5 +19,5 @@ measure-field-spec =
     (λ c. search needs)
     (λ c κs. search needs)
     (λ c κs. search needs)
-    returns
+    (λ c. rw (sym (c .before .before .before .size-of .ensures) ∙ ap amountOf (c .before .k .given .1)))
     returns-2)

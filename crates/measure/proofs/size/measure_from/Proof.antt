@@ -29,42 +29,21 @@ item c =
     sym (c .before .before .before .before .next .ensures) ∙ ap nextOf (c .before .before .i .given .1)
     ∙ ap (λ (o : Op). accepted (some (o, c .before .before .i .given .0 .1 .0 .at))) (sym (c .op .ensures))
 
-loop-holds : tie.Need-loop-holds Inv-loop μ-loop
-loop-holds c = run-none measureOp _ _ _ _ (c .new .ensures)
-
-next-requires : tie.Need-next-requires Inv-loop μ-loop
-next-requires c κs = c .before .before .before .pre
-
-enum-told : tie.Need-enum-told Inv-loop μ-loop
-enum-told c = c .match .keys1
-
 returns : tie.Need-returns Inv-loop μ-loop
 returns c =
     let l = c .before .before .before in
     measure-is _ _ _ (run-end measureOp (l .loop .inv) (sym (c .before .before .next .ensures) ∙ ap nextOf (c .enum-told .given .1)))
-
-enum-known-k : tie.Need-enum-known-k Inv-loop μ-loop
-enum-known-k c = c .match .keys2
 
 returns-2 : tie.Need-returns-2 Inv-loop μ-loop
 returns-2 c =
     let l = c .before .before .before .before in
     measure-is _ _ _ (run-refusal measureOp (l .loop .inv) (sym (c .before .before .before .next .ensures) ∙ ap nextOf (c .before .k .given .1)))
 
-enum-known-i : tie.Need-enum-known-i Inv-loop μ-loop
-enum-known-i c = c .match .keys3
-
-enum-known-k-2 : tie.Need-enum-known-k-2 Inv-loop μ-loop
-enum-known-k-2 c = c .match2 .keys1
-
 returns-3 : tie.Need-returns-3 Inv-loop μ-loop
 returns-3 c =
     let o = c .before .before .before .before in
     let l = o .before .before .before .before .before in
     measure-is _ _ _ (run-refused measureOp (l .loop .inv) (item o) (sym (c .before .before .before .measure-op .ensures) ∙ ap stateOf (c .before .k2 .given .1)))
-
-enum-known-t : tie.Need-enum-known-t Inv-loop μ-loop
-enum-known-t c = c .match2 .keys2
 
 loop-less : tie.Need-loop-less Inv-loop μ-loop
 loop-less c =
@@ -86,18 +65,18 @@ measure-from-spec =
     Inv-loop
     μ-loop
     (λ c κs. tt)
-    loop-holds
-    next-requires
-    enum-told
+    (λ c. run-none measureOp _ _ _ _ (c .new .ensures))
+    (λ c κs. c .before .before .before .pre)
+    (λ c. c .match .keys1)
     returns
-    enum-known-k
+    (λ c. c .match .keys2)
     returns-2
-    enum-known-i
+    (λ c. c .match .keys3)
     (λ c κs. tt)
     (λ c κs. tt)
-    enum-known-k-2
+    (λ c. c .match2 .keys1)
     returns-3
-    enum-known-t
+    (λ c. c .match2 .keys2)
     (λ c κs. tt)
     loop-less
     loop-again)

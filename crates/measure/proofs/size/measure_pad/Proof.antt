@@ -10,9 +10,6 @@ use Rattle.measure.proofs.size.measure_pad.Tie as tie
 returns : tie.Need-returns
 returns c = c .longer .ensures ∙ pad-nothing _ _ _ _ (sym (c .before .before .before .before .before .padding .ensures) ∙ ap amountOf (c .before .before .before .p .given .1)) (c .before .if1 .taken)
 
-returns-2 : tie.Need-returns-2
-returns-2 c = pad-refused _ _ _ _ (sym (c .before .before .before .padding .ensures) ∙ ap amountOf (c .before .k .given .1))
-
 returns-3 : tie.Need-returns-3
 returns-3 c =
     let x = c .before .before .before .before .before .before in
@@ -38,6 +35,6 @@ measure-pad-spec =
     (λ c. search needs)
     (λ c. search needs)
     (λ c κs. search needs)
-    returns-2
+    (λ c. pad-refused _ _ _ _ (sym (c .before .before .before .padding .ensures) ∙ ap amountOf (c .before .k .given .1)))
     returns-3
     returns-4)

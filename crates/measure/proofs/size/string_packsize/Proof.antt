@@ -7,9 +7,6 @@ use borrow.Author.Needs.{needs}
 use Rattle.measure.proofs.size.string_packsize.Statement.{statement}
 use Rattle.measure.proofs.size.string_packsize.Tie as tie
 
-measure-from-requires : tie.Need-measure-from-requires
-measure-from-requires c κs = subst Sizes (sym (c .before .before .table .ensures)) options-sizes
-
 returns : tie.Need-returns
 returns c =
     let m = c .before .before .before in
@@ -26,7 +23,7 @@ string-packsize-spec =
     (tie.spec
     (λ c κs. search needs)
     (λ c κs. search needs)
-    measure-from-requires
+    (λ c κs. subst Sizes (sym (c .before .before .table .ensures)) options-sizes)
     (λ c. search needs)
     (λ c. search needs)
     returns
