@@ -12,9 +12,6 @@ returns c =
     let f = c .before .first-line in
     answer-long (now (c .before .before .before .args .input)) (f .result) (f .ensures .1) (f .ensures .0) (c .if1 .taken)
 
-slice-aggregate-string-packsize : tie.Need-slice-aggregate-string-packsize
-slice-aggregate-string-packsize c = sym (length-take-le (c .before .before .first-line .result) (c .before .before .before .before .args .input .now) (c .before .before .first-line .ensures .0))
-
 returns-2 : tie.Need-returns-2
 returns-2 c =
     let f = c .before .before .before .first-line in
@@ -27,6 +24,6 @@ answer-spec =
     (tie.spec
     (λ c κs. search needs)
     returns
-    slice-aggregate-string-packsize
+    (λ c. sym (length-take-le (c .before .before .first-line .result) (c .before .before .before .before .args .input .now) (c .before .before .first-line .ensures .0)))
     (λ c κs. search needs)
     returns-2)

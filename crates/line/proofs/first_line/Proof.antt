@@ -16,17 +16,11 @@ Inv-loop input i₀ i = (i ≤ length input) × (take i input ++ firstLine (drop
 abbrev μ-loop : tie.MeasureT-loop
 μ-loop input i₀ i = length input - i
 
-loop-holds : tie.Need-loop-holds Inv-loop μ-loop
-loop-holds c = (omega arith, refl)
-
 returns : tie.Need-returns Inv-loop μ-loop
 returns c = (c .before .before .before .loop .inv .0, line-stop (now (c .before .before .before .before .args .input)) (c .before .before .before .loop .i) (c .before .before .before .loop .inv .1) (c .before .before .loop-test .taken) (c .if1 .taken))
 
 loop-again : tie.Need-loop-again Inv-loop μ-loop
 loop-again c = (omega arith, line-on (now (c .before .before .before .before .args .input)) (c .before .before .before .loop .i) (c .before .before .before .loop .inv .1) (c .before .before .loop-test .taken) (c .if1 .left))
-
-returns-2 : tie.Need-returns-2 Inv-loop μ-loop
-returns-2 c = (c .before .loop .inv .0, line-end (now (c .before .before .args .input)) (c .before .loop .i) (c .before .loop .inv .1) (c .loop-test .left))
 
 pub first-line-spec : {M : Type 1} → statement M
 first-line-spec =
@@ -34,10 +28,10 @@ first-line-spec =
     (tie.spec
     Inv-loop
     μ-loop
-    loop-holds
+    (λ c. (omega arith, refl))
     (λ c. omega arith)
     returns
     (λ c. omega arith)
     (λ c. omega arith)
     loop-again
-    returns-2)
+    (λ c. (c .before .loop .inv .0, line-end (now (c .before .before .args .input)) (c .before .loop .i) (c .before .loop .inv .1) (c .loop-test .left))))
