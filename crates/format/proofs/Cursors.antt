@@ -5,11 +5,10 @@ use mathlib.Core.Bool.{Bool, true, false, cond}
 use mathlib.Core.List.{List, _∷_}
 use mathlib.Core.Option.{Option, none, some}
 use native.Mathlib.Omega.{arith}
-use lib.Dec.{T, ltb, eqb}
+use lib.Dec.{T, eqb}
 use lib.Ieee.Bits.{is-true}
 use mir.Facts.{and-yes}
 use lib.ListN.{length, getD, drop, drop-of-length-le}
-use borrow.Author.Tests.{ltb-true, ltb-false}
 use Rattle.definition.specs.Answers.{Checked, refused, accepted, _>>=_}
 use Rattle.definition.specs.Options.{Table, Class, NumeralRule, Nothing, Digits, DigitsBehindX, NextByte, Entry}
 use Rattle.definition.specs.Items.{taken, takenBy, numeralOf, Numeral, Missing, TooLarge, Value}
@@ -22,7 +21,7 @@ use Rattle.format.specs.Packed.{plainAt, entryAt}
 use Rattle.format.specs.Operands.{operandBy, operandWith, opFor, taking, operandAt}
 use Rattle.format.specs.Steps.{opAt, nextAt}
 use Rattle.numeral.proofs.Digits.{drop-at}
-use Rattle.format.proofs.Entries.{at-fixed, at-plain, at-align, at-none, digits-rule}
+use Rattle.format.proofs.Entries.{cut, at-fixed, at-plain, at-align, at-none, digits-rule, plain-all}
 
 -- ---- the operation by the operand
 
@@ -55,27 +54,19 @@ op-with t NextByte e s x h = rw (x refl)
 
 -- only X takes the next byte
 next-align : (e : ℕ) → entryAt e .rule ≡ NextByte → entryAt e .class ≡ Class.Align
-next-align e q = by112 (ltb e 112) refl
+next-align e q =
+    cut e 112 (λ h. by84 (eqb e 84) (rw (at-fixed e h) at q)) λ l.
+    cut e 192 (λ h. by84 false (rw (at-plain e l h) at q)) λ l.
+    cut e 248 (λ h. digits (rw (digits-rule e l h) at q)) λ l.
+    cut e 252 (λ h. rw (at-align e l h)) λ l.
+    by84 false (rw (at-none e l) at q)
   where
     by84 : (t : Bool) → cond t DigitsBehindX Nothing ≡ NextByte → entryAt e .class ≡ Class.Align
     by84 true p = let z : _≡_ {A = ℕ} 0 1 = cc in absurd (omega arith)
     by84 false p = let z : _≡_ {A = ℕ} 0 1 = cc in absurd (omega arith)
 
-    by252 : (t : Bool) → ltb e 252 ≡ t → 248 ≤ e → entryAt e .class ≡ Class.Align
-    by252 true h l = rw (at-align e l (ltb-true e 252 h))
-    by252 false h l = let p : Nothing ≡ NextByte = sym (ap (λ (x : Entry). x .rule) (at-none e (ltb-false e 252 h))) ∙ q in let z : _≡_ {A = ℕ} 0 1 = cc in absurd (omega arith)
-
-    by248 : (t : Bool) → ltb e 248 ≡ t → 192 ≤ e → entryAt e .class ≡ Class.Align
-    by248 true h l = let p : Digits ≡ NextByte = sym (digits-rule e l (ltb-true e 248 h)) ∙ q in let z : _≡_ {A = ℕ} 0 1 = cc in absurd (omega arith)
-    by248 false h l = by252 (ltb e 252) refl (ltb-false e 248 h)
-
-    by192 : (t : Bool) → ltb e 192 ≡ t → 112 ≤ e → entryAt e .class ≡ Class.Align
-    by192 true h l = let p : Nothing ≡ NextByte = sym (ap (λ (x : Entry). x .rule) (at-plain e l (ltb-true e 192 h))) ∙ q in let z : _≡_ {A = ℕ} 0 1 = cc in absurd (omega arith)
-    by192 false h l = by248 (ltb e 248) refl (ltb-false e 192 h)
-
-    by112 : (t : Bool) → ltb e 112 ≡ t → entryAt e .class ≡ Class.Align
-    by112 true h = by84 (eqb e 84) (sym (ap (λ (x : Entry). x .rule) (at-fixed e (ltb-true e 112 h))) ∙ q)
-    by112 false h = by192 (ltb e 192) refl (ltb-false e 112 h)
+    digits : Digits ≡ NextByte → entryAt e .class ≡ Class.Align
+    digits p = let z : _≡_ {A = ℕ} 0 1 = cc in absurd (omega arith)
 
 -- ---- the item at a place, by its operand
 abbrev pub stepOf : ℕ → ℕ → Checked (ℕ × ℕ) → Checked (Option (Op × ℕ))
@@ -107,20 +98,8 @@ next-step t d s at h e q x p = ap (stepOf at e) p ∙ sym (ap (nextAt t at) (dro
 
 -- what has no operand does the same with any
 pub plain-op : (e n : ℕ) → opFor (plainAt e) 0 ≡ opFor (plainAt e) n
-unfolding plainAt
-plain-op e n = go (eqb e 112) (eqb e 128) (eqb e 144) (eqb e 160)
-  where
-    go : (a b c d : Bool) → opFor (cond a Class.Blank (cond b (Class.Order false) (cond c (Class.Order true) (cond d Class.Fill Class.ZeroEnded)))) 0 ≡ opFor (cond a Class.Blank (cond b (Class.Order false) (cond c (Class.Order true) (cond d Class.Fill Class.ZeroEnded)))) n
-    go true b c d = refl
-    go false true c d = refl
-    go false false true d = refl
-    go false false false true = refl
-    go false false false false = refl
+plain-op e n = plain-all e (λ c. opFor c 0 ≡ opFor c n) refl (λ o. refl) refl refl
 
 -- X, and what is no option
 pub align-op : (e n : ℕ) → 248 ≤ e → Op.Pad n 0 ≡ opAt e n
-align-op e n l = go (ltb e 252) refl
-  where
-    go : (t : Bool) → ltb e 252 ≡ t → Op.Pad n 0 ≡ opAt e n
-    go true q = rw (at-align e l (ltb-true e 252 q))
-    go false q = rw (at-none e (ltb-false e 252 q))
+align-op e n l = cut e 252 (λ h. rw (at-align e l h)) λ k. rw (at-none e k)

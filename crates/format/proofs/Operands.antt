@@ -4,9 +4,8 @@ use mathlib.Core.Path.{_≡_, refl, sym, ap, _∙_}
 use mathlib.Core.Bool.{Bool, true, false, cond}
 use mathlib.Core.List.{List}
 use native.Mathlib.Omega.{arith}
-use lib.Dec.{ltb, eqb}
+use lib.Dec.{eqb}
 use lib.ListN.{length}
-use borrow.Author.Tests.{ltb-true, ltb-false}
 use Rattle.definition.specs.Answers.{Checked, refused, accepted}
 use Rattle.definition.specs.Options.{Table, entry, Nothing, DigitsBehindX, Number, Entry}
 use Rattle.definition.specs.Items.{takenBy}
@@ -17,7 +16,7 @@ use Rattle.format.specs.declared.operand.Behind.{Behind}
 use Rattle.format.specs.declared.operand.Operand.{Operand}
 use Rattle.format.specs.declared.operand.Operand.the-variants as Operand
 use Rattle.format.proofs.Taken.{taken-length}
-use Rattle.format.proofs.Entries.{at-fixed, at-plain, at-align, at-none, plain-by}
+use Rattle.format.proofs.Entries.{cut, at-fixed, at-plain, at-align, at-none, plain-all}
 
 -- ---- how many bytes are taken
 taking-count : (c : Checked ℕ) (i n j : ℕ) → taking i c ≡ accepted (n, j) → j ≡ i
@@ -52,8 +51,6 @@ fixed-with t e s true q r = rw (r, q)
 fixed-with t e s false q r = rw (r, q)
 
 pub operand-bare : (t : Table) (e : ℕ) → e < 192 → (s : List ℕ) → accepted (sizeAt e, 0) ≡ operandAt t (entryAt e) s
-operand-bare t e h s = go (ltb e 112) refl
-  where
-    go : (x : Bool) → ltb e 112 ≡ x → accepted (sizeAt e, 0) ≡ operandAt t (entryAt e) s
-    go true q = rw (at-fixed e (ltb-true e 112 q)) (fixed-with t (entry (Number (kindAt e)) (sizeAt e) (cond (eqb e 84) DigitsBehindX Nothing)) s (eqb e 84) refl refl)
-    go false q = rw (at-plain e (ltb-false e 112 q) h) (fixed-with t (entry (plainAt e) (sizeAt e) Nothing) s false (plain-by e (sizeAt e)) refl)
+operand-bare t e h s =
+    cut e 112 (λ k. rw (at-fixed e k) (fixed-with t (entry (Number (kindAt e)) (sizeAt e) (cond (eqb e 84) DigitsBehindX Nothing)) s (eqb e 84) refl refl)) λ l.
+    rw (at-plain e l h) (fixed-with t (entry (plainAt e) (sizeAt e) Nothing) s false (plain-all e (λ c. operandBy c (sizeAt e) Numeral.Missing ≡ accepted (sizeAt e)) refl (λ o. refl) refl refl) refl)
