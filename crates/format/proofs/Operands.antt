@@ -32,13 +32,10 @@ room t (Operand.Refused k) e s q h = tt
 room t (Operand.Of n i) e s q h = omega (arith, operand-count t e s n i (sym q))
 
 -- ---- X, and a byte that is no option
-pub operand-x : (t : Table) (e : ℕ) → 248 ≤ e → e < 252 → (s : List ℕ) → naturalAt t s ≡ operandAt t (entryAt e) s
-unfolding operandAt naturalAt
-operand-x t e l h s = rw (at-align e l h)
-
 -- what the answer y says of s, which follows X
 pub behind-is : (t : Table) (e : ℕ) → 248 ≤ e → e < 252 → (s : List ℕ) (x y : Behind) → x ≡ y → behindOf t x s ≡ naturalAt t s → behindOf t y s ≡ operandAt t (entryAt e) s
-behind-is t e l h s x y q p = ap (λ (z : Behind). behindOf t z s) (sym q) ∙ p ∙ operand-x t e l h s
+unfolding operandAt naturalAt
+behind-is t e l h s x y q p = rw (at-align e l h) (rw q at p)
 
 pub operand-none : (t : Table) (e : ℕ) → 252 ≤ e → (s : List ℕ) → refused 1 ≡ operandAt t (entryAt e) s
 unfolding operandAt
