@@ -72,20 +72,15 @@ next-align e q =
 abbrev pub stepOf : ℕ → ℕ → Checked (ℕ × ℕ) → Checked (Option (Op × ℕ))
 stepOf at e x = x >>= λ r. accepted (some (opAt e (r .0), at + 1 + r .1))
 
+step-of : (at e n : ℕ) (c : Checked ℕ) → (does (entryAt e .class) c >>= λ o. accepted (some (o, at + 1 + n))) ≡ stepOf at e (taking n c)
+step-of at e n (refused k) = refl
+step-of at e n (accepted k) = refl
+
 next-cons : (t : Table) → Sizes t → (at b : ℕ) (s : List ℕ) (e : ℕ) → entryAt e ≡ t b → nextAt t at (b ∷ s) ≡ stepOf at e (operandAt t (entryAt e) s)
 unfolding nextAt taken opOf operandAt
 next-cons t h at b s e q =
-    rw (← q, op-with t (entryAt e .rule) (entryAt e) (takenBy t (entryAt e .rule) s) (next-align e) (rw q (h b))) (go (operandWith t (entryAt e .rule) (entryAt e) (takenBy t (entryAt e .rule) s)))
-  where
-    n : ℕ
-    n = length (takenBy t (entryAt e .rule) s)
-
-    placed : Op → Checked (Option (Op × ℕ))
-    placed o = accepted (some (o, at + 1 + n))
-
-    go : (c : Checked ℕ) → ((c >>= λ k. accepted (opFor (entryAt e .class) k)) >>= λ o. placed o) ≡ stepOf at e (taking n c)
-    go (refused k) = refl
-    go (accepted k) = refl
+    let l = takenBy t (entryAt e .rule) s in
+    rw (← q, op-with t (entryAt e .rule) (entryAt e) l (next-align e) (rw q (h b))) (step-of at e (length l) (operandWith t (entryAt e .rule) (entryAt e) l))
 
 pub next-end : (t : Table) (s : List ℕ) (at : ℕ) → length s ≤ at → accepted none ≡ nextAt t at (drop at s)
 unfolding nextAt

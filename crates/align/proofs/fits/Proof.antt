@@ -5,4 +5,8 @@ use Rattle.align.proofs.fits.Statement.{statement}
 use Rattle.align.proofs.fits.Tie as tie
 
 pub fits-spec : {M : Type 1} → statement M
-fits-spec = tie.close (tie.spec (λ c. search needs) (λ c. leb-less (c .before .args .s .length) (c .before .args .n) _ (c .before .pre)))
+fits-spec =
+    tie.close
+    (tie.spec
+    (λ c. search needs)
+    (λ c. leb-less (c .before .args .s .length) (c .before .args .n) _ (c .before .pre)))

@@ -8,4 +8,10 @@ use Rattle.align.proofs.longer.Statement.{statement}
 use Rattle.align.proofs.longer.Tie as tie
 
 pub longer-spec : {M : Type 1} → statement M
-longer-spec = tie.close (tie.spec (λ c. sym (longer-past _ _ (omega arith))) (λ c. sym (longer-past _ _ (omega arith))) (λ c κs. search needs) (λ c. ap accepted (c .further .ensures) ∙ sym (longer-fits (c .before .before .before .before .args .s) _ (omega arith))))
+longer-spec =
+    tie.close
+    (tie.spec
+    (λ c. sym (longer-past _ _ (omega arith)))
+    (λ c. sym (longer-past _ _ (omega arith)))
+    (λ c κs. search needs)
+    (λ c. ap accepted (c .further .ensures) ∙ sym (longer-fits (c .before .before .before .before .args .s) _ (omega arith))))

@@ -22,4 +22,9 @@ text-by-one ZeroEnded h = refl
 text-by-one (Counted n) h = refl
 
 pub natural-spec : {M : Type 1} → statement M
-natural-spec = tie.close (tie.spec (λ c. search needs) (λ c. search needs) (λ c. text-by-one (c .before .args .f) (c .match .keys2)))
+natural-spec =
+    tie.close
+    (tie.spec
+    (λ c. search needs)
+    (λ c. search needs)
+    (λ c. text-by-one (c .before .args .f) (c .match .keys2)))

@@ -38,4 +38,10 @@ returns c =
 pub put-line-spec : {M : Type 1} → statement M
 put-line-spec =
     tie.close
-    (tie.spec (λ c κs. search needs) (λ c κs. search needs) (λ c. search needs) put-requires-2 same-length returns)
+    (tie.spec
+    (λ c κs. search needs)
+    (λ c κs. search needs)
+    (λ c. search needs)
+    put-requires-2
+    same-length
+    returns)

@@ -18,4 +18,10 @@ returns-2 c =
     sym (first-at (now (a .text)) (a .at) (c .before .before .if1 .taken) ∙ rw (lt-leb _ _ (c .if2 .left)))
 
 pub digit-at-spec : {M : Type 1} → statement M
-digit-at-spec = tie.close (tie.spec (λ c. search needs) returns returns-2 (λ c. sym (first-past (now (c .before .args .text)) (c .before .args .at) (c .if1 .left))))
+digit-at-spec =
+    tie.close
+    (tie.spec
+    (λ c. search needs)
+    returns
+    returns-2
+    (λ c. sym (first-past (now (c .before .args .text)) (c .before .args .at) (c .if1 .left))))

@@ -7,4 +7,10 @@ use Rattle.numeral.proofs.digit_value.Statement.{statement}
 use Rattle.numeral.proofs.digit_value.Tie as tie
 
 pub digit-value-spec : {M : Type 1} → statement M
-digit-value-spec = tie.close (tie.spec (λ c. let a = c .before .before .args in first-inside (now (a .text)) (a .at) (c .before .before .pre)) (λ c κs. search needs) (λ c. let a = c .before .before .before .args in omega (arith, first-48 (now (a .text)) (a .at) (c .before .before .before .pre))) (λ c. search needs))
+digit-value-spec =
+    tie.close
+    (tie.spec
+    (λ c. let a = c .before .before .args in first-inside (now (a .text)) (a .at) (c .before .before .pre))
+    (λ c κs. search needs)
+    (λ c. let a = c .before .before .before .args in omega (arith, first-48 (now (a .text)) (a .at) (c .before .before .before .pre)))
+    (λ c. search needs))

@@ -33,4 +33,12 @@ returns c =
 pub skip-digits-spec : {M : Type 1} → statement M
 skip-digits-spec =
     tie.close
-    (tie.spec Inv-loop μ-loop (λ c. refl) (λ c κs. search needs) (λ c. omega (arith, first-inside (c .before .before .before .before .args .text .now) (c .before .before .loop .i) (digit c))) (λ c. omega (arith, first-inside (c .before .before .before .before .args .text .now) (c .before .before .loop .i) (digit c))) (λ c. digit-length (c .before .before .before .before .args .text .now) (c .before .before .loop .i) (digit c) ∙ c .before .before .loop .inv) returns)
+    (tie.spec
+    Inv-loop
+    μ-loop
+    (λ c. refl)
+    (λ c κs. search needs)
+    (λ c. omega (arith, first-inside (c .before .before .before .before .args .text .now) (c .before .before .loop .i) (digit c)))
+    (λ c. omega (arith, first-inside (c .before .before .before .before .args .text .now) (c .before .before .loop .i) (digit c)))
+    (λ c. digit-length (c .before .before .before .before .args .text .now) (c .before .before .loop .i) (digit c) ∙ c .before .before .loop .inv)
+    returns)

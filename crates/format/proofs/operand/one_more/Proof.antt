@@ -4,4 +4,11 @@ use Rattle.format.proofs.operand.one_more.Statement.{statement}
 use Rattle.format.proofs.operand.one_more.Tie as tie
 
 pub one-more-spec : {M : Type 1} → statement M
-one-more-spec = tie.close (tie.spec (λ c. search needs) (λ c. search needs) (λ c. record { fits = rw (c .before .x2 .given .1) at (c .before .before .before .pre) }) (λ c. rw (c .before .x .given .1)) (λ c. rw (c .before .x2 .given .1)))
+one-more-spec =
+    tie.close
+    (tie.spec
+    (λ c. search needs)
+    (λ c. search needs)
+    (λ c. record { fits = rw (c .before .x2 .given .1) at (c .before .before .before .pre) })
+    (λ c. rw (c .before .x .given .1))
+    (λ c. rw (c .before .x2 .given .1)))

@@ -5,4 +5,10 @@ use Rattle.format.proofs.operand.shown.Statement.{statement}
 use Rattle.format.proofs.operand.shown.Tie as tie
 
 pub shown-spec : {M : Type 1} → statement M
-shown-spec = tie.close (tie.spec (λ c. rw (lt-ltb _ 192 (c .if1 .taken))) (λ c. rw (le-ltb _ 192 (c .before .if1 .left), le-leb 248 _ (c .if2 .taken))) (λ c κs. search needs) (λ c. rw (le-ltb _ 192 (c .before .before .if1 .left), lt-leb 248 _ (c .before .if2 .left)) (c .peek .ensures)))
+shown-spec =
+    tie.close
+    (tie.spec
+    (λ c. rw (lt-ltb _ 192 (c .if1 .taken)))
+    (λ c. rw (le-ltb _ 192 (c .before .if1 .left), le-leb 248 _ (c .if2 .taken)))
+    (λ c κs. search needs)
+    (λ c. rw (le-ltb _ 192 (c .before .before .if1 .left), lt-leb 248 _ (c .before .if2 .left)) (c .peek .ensures)))

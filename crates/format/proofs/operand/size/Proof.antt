@@ -4,4 +4,9 @@ use Rattle.format.proofs.operand.size.Statement.{statement}
 use Rattle.format.proofs.operand.size.Tie as tie
 
 pub size-spec : {M : Type 1} → statement M
-size-spec = tie.close (tie.spec (λ c. rw (lt-leb 1 _ (c .if1 .taken))) (λ c. rw (le-leb 1 _ (c .before .if1 .left), lt-leb _ 16 (c .if2 .taken))) (λ c. rw (le-leb 1 _ (c .before .if1 .left), le-leb _ 16 (c .if2 .left))))
+size-spec =
+    tie.close
+    (tie.spec
+    (λ c. rw (lt-leb 1 _ (c .if1 .taken)))
+    (λ c. rw (le-leb 1 _ (c .before .if1 .left), lt-leb _ 16 (c .if2 .taken)))
+    (λ c. rw (le-leb 1 _ (c .before .if1 .left), le-leb _ 16 (c .if2 .left))))

@@ -14,4 +14,10 @@ returns-2 c =
     c .bound-by .ensures ∙ bound-short _ (c .before .before .table .ensures) (now (a .format)) (a .data-length) (i .if1 .left)
 
 pub list-bound-spec : {M : Type 1} → statement M
-list-bound-spec = tie.close (tie.spec (λ c. bound-21 (now (c .before .before .args .format)) (c .before .before .args .data-length) (c .if1 .taken)) (λ c κs. search needs) (λ c κs. subst Sizes (sym (c .before .table .ensures)) options-sizes) returns-2)
+list-bound-spec =
+    tie.close
+    (tie.spec
+    (λ c. bound-21 (now (c .before .before .args .format)) (c .before .before .args .data-length) (c .if1 .taken))
+    (λ c κs. search needs)
+    (λ c κs. subst Sizes (sym (c .before .table .ensures)) options-sizes)
+    returns-2)
