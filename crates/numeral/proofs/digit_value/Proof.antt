@@ -2,7 +2,7 @@
 use native.Mathlib.Omega.{arith}
 use borrow.Author.Needs.{needs}
 use denote.Ref.{now}
-use Rattle.numeral.proofs.Digits.{first-inside, first-48}
+use Rattle.numeral.proofs.Digits.{first-inside, first-byte}
 use Rattle.numeral.proofs.digit_value.Statement.{statement}
 use Rattle.numeral.proofs.digit_value.Tie as tie
 
@@ -12,5 +12,5 @@ digit-value-spec =
     (tie.spec
     (λ c. let a = c .before .before .args in first-inside (now (a .text)) (a .at) (c .before .before .pre))
     (λ c κs. search needs)
-    (λ c. let a = c .before .before .before .args in omega (arith, first-48 (now (a .text)) (a .at) (c .before .before .before .pre)))
+    (λ c. let a = c .before .before .before .args in omega (arith, first-byte (now (a .text)) (a .at) (c .before .before .before .pre)))
     (λ c. search needs))

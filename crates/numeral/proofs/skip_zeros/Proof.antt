@@ -5,7 +5,7 @@ use native.Mathlib.Nat.{zero-add}
 use native.Mathlib.Omega.{arith}
 use lib.ListN.{length, drop}
 use Rattle.definition.specs.Items.{digits, value}
-use Rattle.numeral.proofs.Digits.{zero-value, zero-length}
+use Rattle.numeral.proofs.Digits.{zero-passed}
 use Rattle.numeral.proofs.skip_zeros.Statement.{statement}
 use Rattle.numeral.proofs.skip_zeros.Tie as tie
 
@@ -20,7 +20,8 @@ loop-again c =
     let s = c .before .before .before .before .args .text .now in
     let l = c .before .before .before .loop in
     let h : l .i < length s = omega arith in
-    (zero-value s (l .i) h (c .if1 .left) ∙ l .inv .0, zero-length s (l .i) h (c .if1 .left) ∙ l .inv .1)
+    let z = zero-passed s (l .i) h (c .if1 .left) in
+    (z .0 ∙ l .inv .0, z .1 ∙ l .inv .1)
 
 pub skip-zeros-spec : {M : Type 1} → statement M
 skip-zeros-spec =
