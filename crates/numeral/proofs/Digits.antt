@@ -9,7 +9,7 @@ use native.Mathlib.Omega.{arith}
 use lib.Dec.{ltb, leb, eqb}
 use lib.ListN.{length, getD, take, drop, length-take, length-drop, drop-of-length-le}
 use lib.Seq.{drop-cons, take-all}
-use borrow.Author.Tests.{lt-ltb, le-ltb, ltb-false, leb-true, ne-eqb}
+use borrow.Author.Tests.{lt-ltb, le-ltb, ltb-false, leb-true, eqb-true, eqb-false, ne-eqb}
 use borrow.Table.Steps.{cases}
 use Rattle.definition.specs.Items.{isDigit, digits, value, numeralOf}
 use Rattle.definition.specs.Items as Numeral
@@ -100,17 +100,9 @@ on-cons : (n b : ℕ) (s : List ℕ) → isDigit b ≡ true → digitOn n (b ∷
 unfolding digitOn
 on-cons n b s e = rw e
 
-module _ (n : ℕ) (s : List ℕ) (at left : ℕ) (l : 0 < left) (e : digitFirst (drop at s) ≡ true) where
-  on-digit : digitOn n (take left (drop at s)) ≡ grown (n * 10 + (getD s at 0 - 48))
-  on-digit =
-      let some = on-cons n (getD s at 0) (take (left - 1) (drop (at + 1) s)) (first-digit s at e) in
-      rw (left-at s at left (first-inside s at e) l) some
-
-  pub on-fits : n * 10 + (getD s at 0 - 48) < 2 ^ 64 → digitOn n (take left (drop at s)) ≡ Digit.More (n * 10 + (getD s at 0 - 48))
-  on-fits h = on-digit ∙ rw (lt-ltb (n * 10 + (getD s at 0 - 48)) (2 ^ 64) h)
-
-  pub on-large : 2 ^ 64 ≤ n * 10 + (getD s at 0 - 48) → digitOn n (take left (drop at s)) ≡ Digit.TooLarge
-  on-large h = on-digit ∙ rw (le-ltb (n * 10 + (getD s at 0 - 48)) (2 ^ 64) h)
+pub on-digit : (n : ℕ) (s : List ℕ) (at left : ℕ) → 0 < left → digitFirst (drop at s) ≡ true → digitOn n (take left (drop at s)) ≡ grown (n * 10 + (getD s at 0 - 48))
+on-digit n s at left l e =
+    rw (left-at s at left (first-inside s at e) l) (on-cons n (getD s at 0) (take (left - 1) (drop (at + 1) s)) (first-digit s at e))
 
 -- a further digit has a byte
 on-some : (n : ℕ) (s : List ℕ) (m : ℕ) → digitOn n s ≡ Digit.More m → 0 < length s
@@ -217,10 +209,10 @@ module _ (s : List ℕ) (at : ℕ) (e : digitFirst (drop at s) ≡ true) where
         let one = left-at s at 1 (first-inside s at e) (omega arith) in
         digit-made (getD s at 0) at t n i (first-digit s at e) (first-byte s at e .1) (rw one at q)
 
-    pub short-zero : n ≡ 0 → Short.Long ≡ shortOf (digits (drop at s))
-    short-zero z = let d : getD s at 0 ≡ 48 = omega (arith, first-byte s at e, made) in rw (alone, d)
-
-    pub short-one : (n ≡ 0 → ⊥) → Short.Digit n ≡ shortOf (digits (drop at s))
-    short-one z =
-        let d : eqb (getD s at 0) 48 ≡ false = ne-eqb (getD s at 0) 48 (λ (p : getD s at 0 ≡ 48). z (omega (arith, made))) in
-        rw (alone, d, ← made)
+    pub short-alone : cond (eqb n 0) Short.Long (Short.Digit n) ≡ shortOf (digits (drop at s))
+    short-alone =
+        let m = made in
+        let b = first-byte s at e in
+        cases (eqb (getD s at 0) 48)
+        (λ q. let z : n ≡ 0 = omega (arith, eqb-true (getD s at 0) 48 q) in rw (alone, q, z))
+        (λ q. rw (alone, q, ← made, ne-eqb n 0 (λ z. eqb-false (getD s at 0) 48 q (omega arith))))
