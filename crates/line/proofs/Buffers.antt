@@ -9,6 +9,7 @@ use lib.Dec.{ltb}
 use lib.ListN.{length, drop, set, length-append}
 use lib.Seq.{paste, length-paste, take-length}
 use borrow.Author.Tests.{lt-ltb, le-ltb}
+use borrow.Table.Steps.{cases}
 use Rattle.definition.specs.Program.{decimalIn, decimal}
 use Rattle.coder.proofs.Pasting.{set-paste, paste-on}
 
@@ -37,30 +38,19 @@ decimal-small n h = rw (lt-ltb n 10 h)
 enough : (k n : ℕ) → n < 10 ^ suc k → decimalIn (suc k) n ≡ decimalIn (suc (suc k)) n
 unfolding decimalIn
 enough zero n h = let q : n < 10 = omega (arith, pow-suc 10 0) in rw (lt-ltb n 10 q)
-enough (suc k) n h = go (ltb n 10) (enough k (n / 10) (omega (arith, pow-suc 10 (suc k))))
-  where
-    go : (t : Bool) → decimalIn (suc k) (n / 10) ≡ decimalIn (suc (suc k)) (n / 10) → cond t ((48 + n) ∷ []) (decimalIn (suc k) (n / 10) ++ ((48 + n % 10) ∷ [])) ≡ cond t ((48 + n) ∷ []) (decimalIn (suc (suc k)) (n / 10) ++ ((48 + n % 10) ∷ []))
-    go true ih = refl
-    go false ih = ap (λ (l : List ℕ). l ++ ((48 + n % 10) ∷ [])) ih
+enough (suc k) n h = cases (ltb n 10) (λ q. rw q) (λ q. rw (q, enough k (n / 10) (omega (arith, pow-suc 10 (suc k)))))
 
 nineteen : (n : ℕ) → n < 2 ^ 64 → decimalIn 19 (n / 10) ≡ decimal (n / 10)
 nineteen n h = enough 18 (n / 10) (omega arith)
 
-decimal-in : (n : ℕ) → 10 ≤ n → decimal n ≡ decimalIn 19 (n / 10) ++ ((48 + n % 10) ∷ [])
-unfolding decimalIn
-decimal-in n h = rw (le-ltb n 10 h)
-
 pub decimal-large : (n : ℕ) → n < 2 ^ 64 → 10 ≤ n → decimal n ≡ decimal (n / 10) ++ ((48 + n % 10) ∷ [])
-decimal-large n f h = decimal-in n h ∙ ap (λ (l : List ℕ). l ++ ((48 + n % 10) ∷ [])) (nineteen n f)
+unfolding decimalIn
+decimal-large n f h = rw (le-ltb n 10 h) (ap (λ (l : List ℕ). l ++ ((48 + n % 10) ∷ [])) (nineteen n f))
 
 length-decimal : (k n : ℕ) → length (decimalIn k n) ≤ k
 unfolding decimalIn
 length-decimal zero n = omega arith
-length-decimal (suc k) n = go (ltb n 10) (length-decimal k (n / 10))
-  where
-    go : (t : Bool) → length (decimalIn k (n / 10)) ≤ k → length (cond t ((48 + n) ∷ []) (decimalIn k (n / 10) ++ ((48 + n % 10) ∷ []))) ≤ suc k
-    go true h = omega arith
-    go false h = rw length-append (omega arith)
+length-decimal (suc k) n = cases (ltb n 10) (λ q. rw q (omega arith)) (λ q. rw (q, length-append) (omega (arith, length-decimal k (n / 10))))
 
 -- what stands before the last digit is at most 19 digits
 pub length-before : (n : ℕ) → n < 2 ^ 64 → length (decimal (n / 10)) ≤ 19
