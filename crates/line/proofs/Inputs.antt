@@ -10,11 +10,10 @@ use lib.ListN.{length, take, drop, getD, length-take, drop-of-length-le}
 use lib.Seq.{take-suc, drop-cons}
 use borrow.Table.Steps.{cases}
 use borrow.Author.Tests.{le-leb, lt-leb, lt-ltb, le-ltb, ltb-true, ne-eqb}
-use Rattle.definition.specs.Answers.{refused, accepted}
-use Rattle.definition.specs.Bytes.{bytes}
+use Rattle.definition.specs.Answers.{Checked, refused}
 use Rattle.definition.specs.Calls.{stringPacksize}
 use Rattle.definition.specs.Program.{firstLine, line, printed}
-use Rattle.line.specs.Lines.{settled, Stands, answerTo, numberLine}
+use Rattle.line.specs.Lines.{settled, Stands, answerTo}
 
 -- ---- a place before which no line feed stands
 module _ (s : List ℕ) (i : ℕ) (inv : take i s ++ firstLine (drop i s) ≡ firstLine s) where
@@ -93,14 +92,6 @@ module _ (s : List ℕ) (n : ℕ) (e : take n s ≡ firstLine s) (h : n ≤ leng
   settled-short l = told (ltb n (length s)) (rw (length-line s n e h, le-ltb 4096 n l))
 
 -- ---- what is printed
-pub printed-refused : (s : List ℕ) (k n : ℕ) → answerTo s ≡ refused k → n ≡ k → printed s ≡ numberLine (bytes "refused ") n
+pub printed-is : (s : List ℕ) (c : Checked ℕ) → answerTo s ≡ c → printed s ≡ line c
 unfolding printed
-printed-refused s k n q e = ap line q ∙ ap (numberLine (bytes "refused ")) (sym e)
-
-pub printed-size : (s : List ℕ) (n : ℕ) → answerTo s ≡ accepted n → printed s ≡ numberLine (bytes "size ") n
-unfolding printed
-printed-size s n q = ap line q
-
--- the line w at the front of a buffer is the line p
-pub held : (p w : List ℕ) → p ≡ w → (r : ℕ) (b o : List ℕ) → (r ≡ length w) × (b ≡ w ++ drop (length w) o) → (r ≡ length p) × (b ≡ p ++ drop (length p) o)
-held p w e r b o h = rw e h
+printed-is s c q = ap line q
