@@ -77,15 +77,13 @@ module _ (o : List ℕ) (at n p : ℕ) (b : List ℕ) (f : n < 2 ^ 64) (r : at +
             ∙ put-byte o at (decimal (n / 10)) x (omega (arith, length-before n f)) ∙ ap (λ (y : ℕ). put o at (decimal (n / 10) ++ (y ∷ []))) d ∙ ap (put o at) (sym l),
       )
 
--- ---- a line put into a buffer: what each of its parts leaves
-pub line-length : (l d e : List ℕ) (i j k : ℕ) → i ≡ 0 + length l → j ≡ i + length d → k ≡ j + length e → k ≡ length (l ++ (d ++ e))
-line-length l d e i j k p q r = omega (arith, length-append l (d ++ e), length-append d e)
-
-pub line-held : (o l d e : List ℕ) (i j : ℕ) → i ≡ 0 + length l → j ≡ i + length d → length l + (length d + length e) ≤ length o
-    → (x y z : List ℕ) → x ≡ put o 0 l → y ≡ put x i d → z ≡ put y j e → z ≡ (l ++ (d ++ e)) ++ drop (length (l ++ (d ++ e))) o
-line-held o l d e i j p q h x y z ex ey ez =
-    let i' : i ≡ length l = p ∙ zero-add (length l) in
-    let a : y ≡ put o 0 (l ++ d) = ey ∙ ap (λ (v : List ℕ). put v i d) ex ∙ ap (λ (k : ℕ). put (put o 0 l) k d) p ∙ put-put o 0 l d (omega arith) in
-    let j' : j ≡ 0 + length (l ++ d) = omega (arith, length-append l d) in
-    ez ∙ ap (λ (v : List ℕ). put v j e) a ∙ ap (λ (k : ℕ). put (put o 0 (l ++ d)) k e) j' ∙ put-put o 0 (l ++ d) e (omega (arith, length-append l d))
-    ∙ ap (put o 0) (append-assoc l d e) ∙ put-front o (l ++ (d ++ e))
+-- ---- a line put into a buffer, part after part
+pub line-put : (o l d e : List ℕ) → length l + (length d + length e) ≤ length o → (i j k : ℕ) → i ≡ 0 + length l → j ≡ i + length d → k ≡ j + length e
+    → (x y z : List ℕ) → x ≡ put o 0 l → y ≡ put x i d → z ≡ put y j e → (k ≡ length (l ++ (d ++ e))) × (z ≡ (l ++ (d ++ e)) ++ drop (length (l ++ (d ++ e))) o)
+line-put o l d e h i j k p q r x y z ex ey ez =
+    let n = length-append l d in
+    let a : y ≡ put o 0 (l ++ d) = ey ∙ ap (λ (v : List ℕ). put v i d) ex ∙ ap (λ (m : ℕ). put (put o 0 l) m d) p ∙ put-put o 0 l d (omega arith) in
+    let j' : j ≡ 0 + length (l ++ d) = omega arith in (
+      omega (arith, length-append l (d ++ e), length-append d e),
+      ez ∙ ap (λ (v : List ℕ). put v j e) a ∙ ap (λ (m : ℕ). put (put o 0 (l ++ d)) m e) j' ∙ put-put o 0 (l ++ d) e (omega arith) ∙ ap (put o 0) (append-assoc l d e) ∙ put-front o (l ++ (d ++ e)),
+    )
