@@ -14,11 +14,12 @@ use Rattle.definition.specs.States.{fill}
 use Rattle.definition.proofs.Ops.{power-cases}
 
 -- f at each number below n
-abbrev each : (ℕ → Bool) → ℕ → List Bool
+abbrev pub each : {A : Type 0} → (ℕ → A) → ℕ → List A
 each f zero = []
 each f (suc n) = f zero ∷ each (λ k. f (suc k)) n
 
-same-at : (f g : ℕ → Bool) (n k : ℕ) → each f n ≡ each g n → k < n → f k ≡ g k
+-- two functions that are equal at all of them by one equation, which antt computes
+pub same-at : {A : Type 0} (f g : ℕ → A) (n k : ℕ) → each f n ≡ each g n → k < n → f k ≡ g k
 same-at f g zero k e h = absurd (not-suc-le-zero h)
 same-at f g (suc n) zero e h = cc
 same-at f g (suc n) (suc k) e h = same-at (λ j. f (suc j)) (λ j. g (suc j)) n k (cc) (le-of-suc-le-suc h)

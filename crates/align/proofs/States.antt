@@ -5,6 +5,7 @@ use native.Mathlib.Omega.{arith}
 use lib.Dec.{leb}
 use mathlib.Core.Path.{_≡_, refl, sym, ap, _∙_}
 use mathlib.Core.Bool.{Bool, true, false}
+use borrow.Table.Steps.{cases}
 use borrow.Author.Tests.{le-leb, lt-leb, leb-true, leb-false}
 use Rattle.definition.specs.Answers.{refused, accepted}
 use Rattle.definition.specs.Ops.{isPower}
@@ -41,8 +42,7 @@ module _ (s : State) (n a : ℕ) (is : a ≡ min n (s .limit)) where
 
 -- a difference is compared in place of a sum
 pub leb-less : (a n m : ℕ) → a ≤ m → leb n (m - a) ≡ leb (a + n) m
-leb-less a n m h = go (leb n (m - a)) refl
-  where
-    go : (t : Bool) → leb n (m - a) ≡ t → t ≡ leb (a + n) m
-    go true e = sym (le-leb (a + n) m (omega (arith, leb-true n (m - a) e)))
-    go false e = sym (lt-leb (a + n) m (omega (arith, leb-false n (m - a) e)))
+leb-less a n m h =
+    cases (leb n (m - a))
+    (λ e. e ∙ sym (le-leb (a + n) m (omega (arith, leb-true n (m - a) e))))
+    (λ e. e ∙ sym (lt-leb (a + n) m (omega (arith, leb-false n (m - a) e))))

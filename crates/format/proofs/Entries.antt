@@ -4,6 +4,7 @@ use mathlib.Core.Path.{_≡_, refl}
 use mathlib.Core.Bool.{Bool, true, false, cond}
 use native.Mathlib.Omega.{arith}
 use lib.Dec.{ltb, eqb}
+use borrow.Table.Steps.{cases}
 use borrow.Author.Tests.{lt-ltb, le-ltb, ltb-true, ltb-false}
 use Rattle.definition.specs.Options.{entry, Class, NoOption, Blank, Order, Limit, Number, Chars, ZeroEnded, Counted, Fill, Align, Nothing, Digits, DigitsBehindX, NextByte}
 use Rattle.definition.specs.Ops.{limitOr, needed}
@@ -14,11 +15,7 @@ use Rattle.format.specs.Operands.{sizeBy, operandBy}
 
 -- by whether e is below n
 pub cut : {P : Type 0} (e n : ℕ) → (e < n → P) → (n ≤ e → P) → P
-cut {P} e n low high = go (ltb e n) refl
-  where
-    go : (t : Bool) → ltb e n ≡ t → P
-    go true q = low (ltb-true e n q)
-    go false q = high (ltb-false e n q)
+cut e n low high = cases (ltb e n) (λ q. low (ltb-true e n q)) (λ q. high (ltb-false e n q))
 
 module _ (e : ℕ) where
   pub at-fixed : e < 112 → entryAt e ≡ entry (Number (kindAt e)) (sizeAt e) (cond (eqb e 84) DigitsBehindX Nothing)

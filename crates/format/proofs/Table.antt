@@ -9,7 +9,7 @@ use lib.ListN.{getD}
 use borrow.Author.Tests.{ltb-true, ltb-false, ne-eqb}
 use Rattle.definition.specs.Options.{Entry, entryList, find, options}
 use Rattle.format.specs.Packed.{packed, kindAt, plainAt, entryAt, tableAt}
-use Rattle.format.proofs.Tabulate.{rule}
+use Rattle.align.proofs.Powers.{same-at}
 
 -- the bytes of a list of entries are below 256
 abbrev low : List (ℕ × Entry) → Bool
@@ -29,7 +29,7 @@ unfolding packed kindAt plainAt entryAt entryList options
 at b = go (ltb b 256) refl
   where
     go : (x : Bool) → ltb b 256 ≡ x → cond x (entryAt (getD packed b 0)) (find b []) ≡ options b
-    go true q = rule entryAt options packed 256 refl b 0 (ltb-true b 256 q)
+    go true q = same-at (λ k. entryAt (getD packed k 0)) options 256 b refl (ltb-true b 256 q)
     go false q = sym (find-high b (ltb-false b 256 q) entryList tt)
 
 pub packed-options : tableAt packed ≡ options

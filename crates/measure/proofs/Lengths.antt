@@ -5,30 +5,20 @@ use mathlib.Core.Bool.{Bool, true, false}
 use native.Mathlib.Nat.{zero-add, add-assoc}
 use native.Mathlib.Omega.{arith}
 use lib.Dec.{leb}
-use borrow.Author.Tests.{leb-true, leb-false}
+use borrow.Table.Steps.{cases}
+use borrow.Author.Tests.{lt-leb, leb-false}
 use Rattle.definition.specs.Answers.{Checked, refused, accepted, _>>=_}
 use Rattle.definition.specs.States.{state, further, longer, padding}
 use Rattle.definition.specs.Measuring.{measurePad}
 use Rattle.definition.specs.declared.State.{State}
-use Rattle.align.proofs.States.{longer-fits, longer-past}
 
 -- p bytes, then n bytes
 longer-twice : (s : State) (p n : ℕ) → (longer s p >>= λ t. longer t n) ≡ longer s (p + n)
-longer-twice s p n = go (leb (s .length + p) (2 ^ 63 - 1)) refl
-  where
-    both : (t : Bool) → leb (s .length + p + n) (2 ^ 63 - 1) ≡ t → longer (further s p) n ≡ longer s (p + n)
-    both true q =
-        let h = leb-true (s .length + p + n) (2 ^ 63 - 1) q in
-        longer-fits (further s p) n h ∙ ap (λ (k : ℕ). accepted (state (s .big) (s .limit) k)) (add-assoc (s .length) p n) ∙ sym (longer-fits s (p + n) (omega arith))
-    both false q =
-        let h = leb-false (s .length + p + n) (2 ^ 63 - 1) q in
-        longer-past (further s p) n h ∙ sym (longer-past s (p + n) (omega arith))
-
-    go : (t : Bool) → leb (s .length + p) (2 ^ 63 - 1) ≡ t → (longer s p >>= λ u. longer u n) ≡ longer s (p + n)
-    go true q = rw (longer-fits s p (leb-true (s .length + p) (2 ^ 63 - 1) q)) (both (leb (s .length + p + n) (2 ^ 63 - 1)) refl)
-    go false q =
-        let h = leb-false (s .length + p) (2 ^ 63 - 1) q in
-        rw (longer-past s p h) (sym (longer-past s (p + n) (omega arith)))
+unfolding longer
+longer-twice s p n =
+    cases (leb (s .length + p) (2 ^ 63 - 1))
+    (λ q. rw (q, add-assoc (s .length) p n))
+    (λ q. rw (q, lt-leb (s .length + (p + n)) (2 ^ 63 - 1) (omega (arith, leb-false (s .length + p) (2 ^ 63 - 1) q))))
 
 -- an alignment by `natural` and n bytes, by what the padding is
 module _ (s : State) (natural n : ℕ) where
