@@ -1,7 +1,5 @@
 -- The alignment decides.
-use mathlib.Core.Path.{sym, ap, _∙_}
 use borrow.Author.Needs.{needs}
-use Rattle.align.specs.Amounts.{amountOf}
 use Rattle.measure.proofs.bound.bound_pad.Statement.{statement}
 use Rattle.measure.proofs.bound.bound_pad.Tie as tie
 
@@ -12,5 +10,5 @@ bound-pad-spec =
     (λ c κs. search needs)
     (λ c. search needs)
     (λ c. search needs)
-    (λ c. rw (sym (c .before .before .before .alignment .ensures) ∙ ap amountOf (c .before .k .given .1)))
-    (λ c. rw (sym (c .before .before .alignment .ensures) ∙ ap amountOf (c .enum-told .given .1))))
+    (λ c. rw (← c .before .before .before .alignment .ensures, c .before .k .given .1))
+    (λ c. rw (← c .before .before .alignment .ensures, c .enum-told .given .1)))
