@@ -1,11 +1,10 @@
 -- What the numeral of an option shows at once, and what that says of its operand.
 use Prim.Native.Nat.{ℕ, _+_, _*_, _-_, _^_, _≤_, _<_}
-use mathlib.Core.Path.{_≡_, refl, sym, ap, _∙_}
+use mathlib.Core.Path.{_≡_, refl, sym, _∙_}
 use mathlib.Core.Bool.{Bool, true, false, cond}
 use mathlib.Core.List.{List, [], _∷_}
 use native.Mathlib.Omega.{arith}
 use lib.Dec.{leb, ltb, eqb}
-use lib.ListN.{length}
 use borrow.Author.Tests.{lt-ltb, le-leb, leb-true, leb-false, ltb-true, ltb-false, eqb-false}
 use Rattle.definition.specs.Answers.{accepted}
 use Rattle.definition.specs.Options.{Table}
@@ -17,7 +16,7 @@ use Rattle.numeral.specs.declared.Short.{Short}
 use Rattle.numeral.specs.declared.Short.the-variants as Short
 use Rattle.definition.proofs.Answers.{both-parts}
 use Rattle.format.specs.Packed.{sizeAt, entryAt}
-use Rattle.format.specs.Operands.{operandBy, operandAt, taking, shownAt}
+use Rattle.format.specs.Operands.{operandBy, operandAt, shownAt}
 use Rattle.format.proofs.Entries.{cut, sized-by, chars-by, limit-by}
 use Rattle.format.proofs.Numerals.{by-digits}
 use Rattle.format.proofs.Operands.{operand-bare}

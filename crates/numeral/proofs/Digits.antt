@@ -3,7 +3,7 @@ use Prim.Native.Nat.{ℕ, zero, suc, _+_, _*_, _-_, _^_, _≤_, _<_}
 use mathlib.Core.Path.{_≡_, refl, sym, ap, _∙_}
 use mathlib.Core.Bool.{Bool, true, false, cond}
 use mathlib.Core.List.{List, [], _∷_}
-use native.Mathlib.Nat.{add-zero, zero-add, le-refl, le-trans, min-le-left, min-le-right}
+use native.Mathlib.Nat.{add-zero, zero-add, le-refl, le-trans}
 use native.Mathlib.Numerals.{add-one}
 use native.Mathlib.Omega.{arith}
 use lib.Dec.{ltb, leb, eqb}

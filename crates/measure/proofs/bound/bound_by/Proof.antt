@@ -1,15 +1,20 @@
 -- The invariant: the run from the start state has come to the cursor's place and to the state. The measure is what is left of the format.
-use Prim.Native.Nat.{_-_}
+use Prim.Native.Nat.{ℕ, _-_}
 use mathlib.Core.Path.{ap}
 use lib.ListN.{length}
+use Rattle.definition.specs.Answers.{Checked, accepted, _>>=_}
+use Rattle.definition.specs.declared.State.{State}
 use Rattle.definition.specs.Bound.{boundOp, bounding, bound}
 use Rattle.definition.specs.Ops.{ops}
 use Rattle.definition.specs.States.{start}
 use Rattle.format.specs.Packed.{tableAt}
 use Rattle.measure.proofs.Runs.{Ran, run-none, run-end, run-refusal, run-less, run-refused, run-on}
-use Rattle.measure.proofs.Sizes.{lengthOf}
 use Rattle.measure.proofs.bound.bound_by.Statement.{statement}
 use Rattle.measure.proofs.bound.bound_by.Tie as tie
+
+-- the length of the state that a run comes to
+abbrev lengthOf : Checked State → Checked ℕ
+lengthOf w = w >>= λ s. accepted (s .length)
 
 abbrev Inv-loop : tie.InvT-loop
 Inv-loop table format data-length c₀ s₀ c s = Ran (boundOp data-length) (tableAt table) (bounding data-length start (ops (tableAt table) format)) format (c .at) s
