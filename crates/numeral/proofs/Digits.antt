@@ -74,6 +74,9 @@ digits-more s at e =
 pub digit-length : (s : List ℕ) (i : ℕ) → digitFirst (drop i s) ≡ true → i + 1 + length (digits (drop (i + 1) s)) ≡ i + length (digits (drop i s))
 digit-length s i e = rw (digits-more s i e) (omega arith)
 
+pub digit-none : (s : List ℕ) (i : ℕ) → digitFirst (drop i s) ≡ false → i ≡ i + length (digits (drop i s))
+digit-none s i e = rw (digits-stop (drop i s) e) (omega arith)
+
 pub digits-length : (s : List ℕ) → length (digits s) ≤ length s
 unfolding digits
 digits-length [] = omega arith

@@ -1,6 +1,6 @@
 -- Two tests that do not overflow tell whether the sum is at most 2^63-1.
 use Prim.Native.Nat.{_+_, _-_, _^_}
-use mathlib.Core.Path.{ap, _∙_}
+use mathlib.Core.Path.{ap}
 use native.Mathlib.Omega.{arith}
 use borrow.Author.Needs.{needs}
 use borrow.Author.Tests.{le-leb, lt-leb}

@@ -13,11 +13,6 @@ use Rattle.numeral.specs.Numerals.{digitFirst, digitOn, grown}
 use Rattle.numeral.proofs.digit_on.Statement.{statement}
 use Rattle.numeral.proofs.digit_on.Tie as tie
 
-returns-2 : tie.Need-returns-2
-returns-2 c =
-    let a = c .before .before .before .before .args in
-    sym (on-stop (a .n) (drop (a .at) (now (a .text))) (a .left) (sym (c .before .digit-at .ensures) ∙ not-true _ (c .if2 .taken)))
-
 -- past the second test a digit stands there
 digit : (c : tie.Else2) → let a = c .before .before .before .before .args in digitFirst (drop (a .at) (now (a .text))) ≡ true
 digit c = sym (c .before .digit-at .ensures) ∙ not-false _ (c .if2 .left)
@@ -35,9 +30,9 @@ pub digit-on-spec : {M : Type 1} → statement M
 digit-on-spec =
     tie.close
     (tie.spec
-    (λ c. let a = c .before .before .args in sym (on-end (a .n) (drop (a .at) (now (a .text))) (a .left) (c .if1 .taken)))
+    (λ c. sym (on-end _ _ _ (c .if1 .taken)))
     (λ c κs. search needs)
-    returns-2
+    (λ c. let a = c .before .before .before .before .args in sym (on-stop (a .n) (drop (a .at) (now (a .text))) (a .left) (sym (c .before .digit-at .ensures) ∙ not-true _ (c .if2 .taken))))
     (λ c κs. digit c)
     (λ c. grows (c .before) .0 (omega arith))
     (λ c. search needs)

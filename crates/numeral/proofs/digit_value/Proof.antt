@@ -10,7 +10,7 @@ pub digit-value-spec : {M : Type 1} → statement M
 digit-value-spec =
     tie.close
     (tie.spec
-    (λ c. let a = c .before .before .args in first-inside (now (a .text)) (a .at) (c .before .before .pre))
+    (λ c. first-inside _ _ (c .before .before .pre))
     (λ c κs. search needs)
     (λ c. let a = c .before .before .before .args in omega (arith, first-byte (now (a .text)) (a .at) (c .before .before .before .pre)))
     (λ c. search needs))

@@ -14,24 +14,9 @@ use Rattle.numeral.specs.declared.Short.the-variants.{Long, Digit}
 use Rattle.numeral.proofs.peek.Statement.{statement}
 use Rattle.numeral.proofs.peek.Tie as tie
 
-returns : tie.Need-returns
-returns c =
-    let a = c .before .before .before .args in
-    sym (short-none (drop (a .at) (now (a .t1))) (sym (c .before .digit-at .ensures) ∙ not-true _ (c .if1 .taken)))
-
 -- past the first test a digit stands there
 digit : (c : tie.Else1) → let a = c .before .before .before .args in digitFirst (drop (a .at) (now (a .t1))) ≡ true
 digit c = sym (c .before .digit-at .ensures) ∙ not-false _ (c .if1 .left)
-
-add-digit-at : tie.Need-add-digit-at
-add-digit-at c =
-    let a = c .before .before .before .args in
-    omega (arith, first-inside (now (a .t1)) (a .at) (digit c))
-
-returns-2 : tie.Need-returns-2
-returns-2 c =
-    let a = c .before .before .before .before .before .args in
-    short-long (now (a .t1)) (a .at) (digit (c .before .before)) (sym (c .before .digit-at2 .ensures) ∙ c .if2 .taken)
 
 -- the digit alone makes the number that is read
 alone : (c : tie.After-read-digits) → let n = c .read-digits .last .1 .1 .0 in let a = c .before .before .before .before .before .before .before .before .before .args in
@@ -47,10 +32,10 @@ peek-spec =
     tie.close
     (tie.spec
     (λ c κs. search needs)
-    returns
-    add-digit-at
+    (λ c. sym (short-none _ (sym (c .before .digit-at .ensures) ∙ not-true _ (c .if1 .taken))))
+    (λ c. let a = c .before .before .before .args in omega (arith, first-inside (now (a .t1)) (a .at) (digit c)))
     (λ c κs. search needs)
-    returns-2
+    (λ c. let a = c .before .before .before .before .before .args in short-long (now (a .t1)) (a .at) (digit (c .before .before)) (sym (c .before .digit-at2 .ensures) ∙ c .if2 .taken))
     (λ c κs. search needs)
     (λ c. rw (c .if3 .taken) at (alone (c .before)))
     (λ c. rw (ne-eqb _ _ (c .if3 .left)) at (alone (c .before))))

@@ -25,7 +25,7 @@ read-spec =
     tie.close
     (tie.spec
     (λ c κs. search needs)
-    (λ c. sym (scan-none (now (c .before .before .before .args .t1)) (sym (c .before .digit-at .ensures) ∙ not-true _ (c .if1 .taken))))
+    (λ c. sym (scan-none _ (sym (c .before .digit-at .ensures) ∙ not-true _ (c .if1 .taken))))
     (λ c κs. search needs)
     (λ c. omega (arith, c .skip-zeros .ensures .1, digits-length (now (c .before .before .before .before .args .t1))))
     (λ c κs. search needs)

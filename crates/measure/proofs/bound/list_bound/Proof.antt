@@ -1,4 +1,5 @@
 -- The data length is tested first.
+use Prim.Native.Nat.{_-_, _^_}
 use mathlib.Core.Path.{sym, _∙_, subst}
 use Rattle.definition.proofs.Ops.{Sizes, options-sizes}
 use borrow.Author.Needs.{needs}
@@ -12,7 +13,7 @@ unfolding listBound
 list-bound-spec =
     tie.close
     (tie.spec
-    (λ c. rw (lt-leb _ _ (c .if1 .taken)))
+    (λ c. rw (lt-leb _ (2 ^ 63 - 1) (c .if1 .taken)))
     (λ c κs. search needs)
     (λ c κs. subst Sizes (sym (c .before .table .ensures)) options-sizes)
-    (λ c. c .bound-by .ensures ∙ rw (le-leb _ _ (c .before .before .before .if1 .left), c .before .before .table .ensures)))
+    (λ c. c .bound-by .ensures ∙ rw (le-leb _ (2 ^ 63 - 1) (c .before .before .before .if1 .left), c .before .before .table .ensures)))
