@@ -5,6 +5,7 @@ use mathlib.Core.Bool.{Bool, true, false, cond}
 use mathlib.Core.List.{List, [], _∷_}
 use native.Mathlib.Omega.{arith}
 use lib.Dec.{leb, ltb, eqb}
+use borrow.Table.Steps.{cases}
 use borrow.Author.Tests.{lt-ltb, le-leb, leb-true, leb-false, ltb-true, ltb-false, eqb-false}
 use Rattle.definition.specs.Answers.{accepted}
 use Rattle.definition.specs.Options.{Table}
@@ -25,11 +26,10 @@ use Rattle.format.proofs.Operands.{operand-bare}
 digits-digit : (s : List ℕ) (d : ℕ) (ds : List ℕ) → digits s ≡ d ∷ ds → isDigit d ≡ true
 unfolding digits
 digits-digit [] d ds q = let z : _≡_ {A = ℕ} 0 1 = cc in absurd (omega arith)
-digits-digit (b ∷ s) d ds q = go (isDigit b) refl q
-  where
-    go : (t : Bool) → isDigit b ≡ t → cond t (b ∷ digits s) [] ≡ d ∷ ds → isDigit d ≡ true
-    go true r p = let f : b ≡ d = cc in rw (← f) r
-    go false r p = let z : _≡_ {A = ℕ} 0 1 = cc in absurd (omega arith)
+digits-digit (b ∷ s) d ds q =
+    cases (isDigit b)
+    (λ r. let p = rw r at q in let f : b ≡ d = cc in rw (← f) r)
+    (λ r. let p = rw r at q in let z : _≡_ {A = ℕ} 0 1 = cc in absurd (omega arith))
 
 module _ (t : Table) (e : ℕ) (s : List ℕ) where
   -- what is shown says of the operand: an option's own size, where it has no numeral; a digit of 1 to 9, where it is accepted; else that the option takes something

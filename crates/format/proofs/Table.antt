@@ -4,8 +4,9 @@ use mathlib.Core.Path.{_≡_, refl, sym}
 use mathlib.Core.Bool.{Bool, true, false, cond}
 use mathlib.Core.List.{List, [], _∷_}
 use native.Mathlib.Omega.{arith}
-use lib.Dec.{T, ltb, eqb}
+use lib.Dec.{T, ltb}
 use lib.ListN.{getD}
+use borrow.Table.Steps.{cases}
 use borrow.Author.Tests.{ltb-true, ltb-false, ne-eqb}
 use Rattle.definition.specs.Options.{Entry, entryList, find, options}
 use Rattle.format.specs.Packed.{packed, kindAt, plainAt, entryAt, tableAt}
@@ -18,11 +19,10 @@ low (e ∷ es) = cond (ltb (e .0) 256) (low es) false
 
 find-high : (b : ℕ) → 256 ≤ b → (es : List (ℕ × Entry)) → T (low es) → find b es ≡ find b []
 find-high b h [] l = refl
-find-high b h (e ∷ es) l = go (ltb (e .0) 256) refl l (find-high b h es)
-  where
-    go : (x : Bool) → ltb (e .0) 256 ≡ x → T (cond x (low es) false) → (T (low es) → find b es ≡ find b []) → cond (eqb b (e .0)) (e .1) (find b es) ≡ find b []
-    go true q l ih = let m = ltb-true (e .0) 256 q in rw (ne-eqb b (e .0) (λ i. omega arith)) (ih l)
-    go false q l ih = absurd l
+find-high b h (e ∷ es) l =
+    cases (ltb (e .0) 256)
+    (λ q. let m = ltb-true (e .0) 256 q in rw (ne-eqb b (e .0) (λ i. omega arith)) (find-high b h es (rw q at l)))
+    (λ q. absurd (rw q at l))
 
 at : (b : ℕ) → tableAt packed b ≡ options b
 unfolding packed kindAt plainAt entryAt entryList options

@@ -42,17 +42,6 @@ module _ (s : List ℕ) (i : ℕ) (inv : take i s ++ firstLine (drop i s) ≡ fi
       ∙ ap (λ (l : List ℕ). take i s ++ l) (sym (ap firstLine (drop-cons s i 0 h) ∙ line-cons (getD s i 0) (drop (suc i) s) n))
       ∙ inv)
 
--- ---- the answer, at the length n of the first line
-module _ (s : List ℕ) (n : ℕ) (e : take n s ≡ firstLine s) (h : n ≤ length s) where
-  length-line : length (firstLine s) ≡ n
-  length-line = ap length (sym e) ∙ length-take n s ∙ omega arith
-
-  pub answer-long : 4096 < n → refused 22 ≡ answerTo s
-  answer-long l = rw (length-line, lt-leb n 4096 l)
-
-  pub answer-short : n ≤ 4096 → stringPacksize (take n s) ≡ answerTo s
-  answer-short l = rw (length-line, le-leb n 4096 l, e)
-
 -- ---- "up to a line feed or the end (over 4,096 bytes: 22)": when what follows an input cannot change its answer
 -- a line that is complete stays as it is
 line-complete : (s t : List ℕ) → length (firstLine s) < length s → firstLine (s ++ t) ≡ firstLine s
@@ -80,16 +69,26 @@ stands s q t =
     (λ long. let h = ltb-true 4096 (length (firstLine s)) long in printed-long (s ++ t) (omega (arith, line-grows s t)) ∙ sym (printed-long s h))
     (λ short. printed-line (s ++ t) s (line-complete s t (ltb-true (length (firstLine s)) (length s) (rw short at q))))
 
--- the two tests of is_settled, at the length n of the first line
+-- ---- the answer, at the length n of the first line
 module _ (s : List ℕ) (n : ℕ) (e : take n s ≡ firstLine s) (h : n ≤ length s) where
+  length-line : length (firstLine s) ≡ n
+  length-line = ap length (sym e) ∙ length-take n s ∙ omega arith
+
+  pub answer-long : 4096 < n → refused 22 ≡ answerTo s
+  answer-long l = rw (length-line, lt-leb n 4096 l)
+
+  pub answer-short : n ≤ 4096 → stringPacksize (take n s) ≡ answerTo s
+  answer-short l = rw (length-line, le-leb n 4096 l, e)
+
+  -- the two tests of is_settled
   told : (r : Bool) → r ≡ settled s → (r ≡ settled s) × (r ≡ true → Stands s)
   told r q = (q, λ t. stands s (sym q ∙ t))
 
   pub settled-long : 4096 < n → (ltb 4096 n ≡ settled s) × (ltb 4096 n ≡ true → Stands s)
-  settled-long l = told (ltb 4096 n) (rw (length-line s n e h, lt-ltb 4096 n l))
+  settled-long l = told (ltb 4096 n) (rw (length-line, lt-ltb 4096 n l))
 
   pub settled-short : n ≤ 4096 → (ltb n (length s) ≡ settled s) × (ltb n (length s) ≡ true → Stands s)
-  settled-short l = told (ltb n (length s)) (rw (length-line s n e h, le-ltb 4096 n l))
+  settled-short l = told (ltb n (length s)) (rw (length-line, le-ltb 4096 n l))
 
 -- ---- what is printed
 pub printed-is : (s : List ℕ) (c : Checked ℕ) → answerTo s ≡ c → printed s ≡ line c

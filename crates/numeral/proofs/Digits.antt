@@ -62,14 +62,9 @@ unfolding digits
 digits-stop [] e = refl
 digits-stop (b ∷ s) e = rw e
 
-digits-cons : (b : ℕ) (s : List ℕ) → isDigit b ≡ true → digits (b ∷ s) ≡ b ∷ digits s
-unfolding digits
-digits-cons b s e = rw e
-
 pub digits-more : (s : List ℕ) (at : ℕ) → digitFirst (drop at s) ≡ true → digits (drop at s) ≡ getD s at 0 ∷ digits (drop (at + 1) s)
-digits-more s at e =
-    let h : at < length s = first-inside s at e in
-    ap digits (drop-at s at h) ∙ digits-cons (getD s at 0) (drop (at + 1) s) (first-digit s at e)
+unfolding digits
+digits-more s at e = rw (drop-at s at (first-inside s at e), first-digit s at e)
 
 pub digit-length : (s : List ℕ) (i : ℕ) → digitFirst (drop i s) ≡ true → i + 1 + length (digits (drop (i + 1) s)) ≡ i + length (digits (drop i s))
 digit-length s i e = rw (digits-more s i e) (omega arith)
@@ -99,13 +94,9 @@ on-stop n s zero e = refl
 on-stop n [] (suc left) e = refl
 on-stop n (b ∷ s) (suc left) e = rw e
 
-on-cons : (n b : ℕ) (s : List ℕ) → isDigit b ≡ true → digitOn n (b ∷ s) ≡ grown (n * 10 + (b - 48))
-unfolding digitOn
-on-cons n b s e = rw e
-
 pub on-digit : (n : ℕ) (s : List ℕ) (at left : ℕ) → 0 < left → digitFirst (drop at s) ≡ true → digitOn n (take left (drop at s)) ≡ grown (n * 10 + (getD s at 0 - 48))
-on-digit n s at left l e =
-    rw (left-at s at left (first-inside s at e) l) (on-cons n (getD s at 0) (take (left - 1) (drop (at + 1) s)) (first-digit s at e))
+unfolding digitOn
+on-digit n s at left l e = rw (left-at s at left (first-inside s at e) l, first-digit s at e)
 
 -- a further digit has a byte
 on-some : (n : ℕ) (s : List ℕ) (m : ℕ) → digitOn n s ≡ Digit.More m → 0 < length s

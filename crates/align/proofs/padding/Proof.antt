@@ -23,7 +23,7 @@ padding-spec =
     tie.close
     (tie.spec
     (λ c κs. search needs)
-    (λ c. rw (← c .before .lesser .ensures, c .if1 .taken, mod-one))
+    (λ c. rw (← c .before .lesser .ensures, c .if1 .taken) (ap accepted (sym (mod-one _))))
     (λ c κs. search needs)
     (λ c κs. search needs)
     (λ c. omega (arith, power-least (c .before .before .before .before .lesser .result) (sym (c .before .before .is-power .ensures) ∙ c .before .if2 .taken)))
