@@ -1,24 +1,23 @@
 -- What X takes and aligns by, by the entry of the byte behind it.
 use Prim.Native.Nat.{ℕ, suc, _+_, _≤_, _<_}
-use mathlib.Core.Path.{_≡_, refl, ap, _∙_}
+use mathlib.Core.Path.{_≡_, refl, sym, ap, _∙_}
 use mathlib.Core.Bool.{true, _&&_, cond}
 use mathlib.Core.List.{List, [], _∷_}
 use native.Mathlib.Numerals.{add-one, one-add}
 use native.Mathlib.Omega.{arith}
 use lib.Dec.{T}
-use lib.Ieee.Bits.{is-true}
 use mir.Facts.{and-yes}
 use lib.ListN.{length, getD, drop}
 use borrow.Author.Tests.{lt-ltb, le-ltb, ne-eqb}
 use Rattle.definition.specs.Answers.{Checked, refused, accepted}
 use Rattle.definition.specs.Options.{entry, Table, Nothing, Entry}
-use Rattle.definition.specs.Items.{digits, isNumber, behindX, nextByte, numeralOf, Numeral}
+use Rattle.definition.specs.Items.{digits, isNumber, behindX, nextByte, numeralOf}
 use Rattle.definition.specs.Ops.{within16, sizeOr, naturalBy}
 use Rattle.definition.specs.Items as Numeral
 use Rattle.format.specs.Packed.{sizeAt, entryAt}
-use Rattle.format.specs.Operands.{sizeBy, taking, operandAt, naturalAt, oneMore}
+use Rattle.format.specs.Operands.{taking, operandAt, naturalAt, oneMore}
 use Rattle.definition.proofs.Ops.{ok}
-use Rattle.format.proofs.Entries.{cut, at-fixed, at-plain, at-signed, at-unsigned, at-counted, at-chars, at-limit, at-align, at-none, sized-by, plain-all}
+use Rattle.format.proofs.Entries.{cut, at-fixed, at-plain, at-signed, at-unsigned, at-counted, at-chars, at-limit, at-align, at-none, own-size, sized-by, plain-all}
 use Rattle.format.proofs.Numerals.{by-digits}
 
 pub natural-nil : (t : Table) (s : List ℕ) → length s ≡ 0 → refused 7 ≡ naturalAt t s
@@ -61,12 +60,7 @@ module _ (e : ℕ) (s : List ℕ) where
   pub plain : 112 ≤ e → e < 192 → refused 7 ≡ natural (entryAt e) s
   plain l h = rw (at-plain e l h) (plain-all e (λ c. refused 7 ≡ natural (entry c (sizeAt e) Nothing) s) refl (λ o. refl) refl refl)
 
-  -- i I l L: with an own size of 1 to 16, which needs no check
-  checked : (n : ℕ) → T (within16 n) → (m : Numeral) → sizeBy n m ≡ sizeOr n m
-  checked n q Numeral.Missing = rw (is-true (within16 n) q)
-  checked n q Numeral.TooLarge = refl
-  checked n q (Numeral.Value v) = refl
-
+  -- i I l L
   one-more : (c : Checked ℕ) (i : ℕ) → oneMore (taking i c) ≡ taking (suc i) c
   one-more (refused k) i = refl
   one-more (accepted n) i = rw add-one
@@ -79,7 +73,7 @@ module _ (e : ℕ) (s : List ℕ) where
   pub numeral : (t : Table) → T (ok (entryAt e)) → 192 ≤ e → e < 224 → oneMore (operandAt t (entryAt e) s) ≡ natural (entryAt e) s
   numeral t d l h =
       let i = integer d l h in
-      ap oneMore (by-digits t e l (omega arith) s ∙ ap (taking (length (digits s))) (sized-by e l (omega arith) (numeralOf (digits s)) ∙ checked (sizeAt e) (i .0) (numeralOf (digits s))))
+      ap oneMore (by-digits t e l (omega arith) s ∙ ap (taking (length (digits s))) (sized-by e l (omega arith) (numeralOf (digits s)) ∙ sym (own-size (sizeAt e) (i .0) (numeralOf (digits s)))))
       ∙ one-more (sizeOr (sizeAt e) (numeralOf (digits s))) (length (digits s))
       ∙ i .1
 

@@ -6,12 +6,11 @@ use mathlib.Core.List.{List, _∷_}
 use mathlib.Core.Option.{Option, none, some}
 use native.Mathlib.Omega.{arith}
 use lib.Dec.{T, eqb}
-use lib.Ieee.Bits.{is-true}
 use mir.Facts.{and-yes}
 use lib.ListN.{length, getD, drop, drop-of-length-le}
 use Rattle.definition.specs.Answers.{Checked, refused, accepted, _>>=_}
 use Rattle.definition.specs.Options.{Table, Class, NumeralRule, Nothing, Digits, DigitsBehindX, NextByte, Entry}
-use Rattle.definition.specs.Items.{taken, takenBy, numeralOf, Numeral, Missing, TooLarge, Value}
+use Rattle.definition.specs.Items.{taken, takenBy, numeralOf, Numeral, Missing}
 use Rattle.definition.specs.Ops.{within16, opBy, opWith, opOf}
 use Rattle.definition.proofs.Ops.{entryOk, Sizes}
 use Rattle.definition.specs.Options as Class
@@ -21,7 +20,7 @@ use Rattle.format.specs.Packed.{plainAt, entryAt}
 use Rattle.format.specs.Operands.{operandBy, operandWith, opFor, taking, operandAt}
 use Rattle.format.specs.Steps.{opAt, nextAt}
 use Rattle.numeral.proofs.Digits.{drop-at}
-use Rattle.format.proofs.Entries.{cut, at-fixed, at-plain, at-align, at-none, digits-rule, plain-all}
+use Rattle.format.proofs.Entries.{cut, at-fixed, at-plain, at-align, at-none, digits-rule, own-size, plain-all}
 
 -- ---- the operation by the operand
 
@@ -35,14 +34,10 @@ op-by Class.NoOption r n h m = refl
 op-by Class.Blank r n h m = refl
 op-by (Class.Order o) r n h m = refl
 op-by Class.Limit r n h m = refl
-op-by (Class.Number k) r n h Missing = rw (is-true (within16 n) (and-yes (within16 n) _ h .0))
-op-by (Class.Number k) r n h TooLarge = refl
-op-by (Class.Number k) r n h (Value v) = refl
+op-by (Class.Number k) r n h m = rw (own-size n (and-yes (within16 n) _ h .0) m)
 op-by Class.Chars r n h m = refl
 op-by Class.ZeroEnded r n h m = refl
-op-by Class.Counted r n h Missing = rw (is-true (within16 n) h)
-op-by Class.Counted r n h TooLarge = refl
-op-by Class.Counted r n h (Value v) = refl
+op-by Class.Counted r n h m = rw (own-size n h m)
 op-by Class.Fill r n h m = refl
 op-by Class.Align r n h m = refl
 

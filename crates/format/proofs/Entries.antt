@@ -1,21 +1,29 @@
 -- Laws of the entries that packed numbers stand for, by their ranges.
 use Prim.Native.Nat.{ℕ, _≤_, _<_}
-use mathlib.Core.Path.{_≡_}
+use mathlib.Core.Path.{_≡_, refl}
 use mathlib.Core.Bool.{Bool, true, false, cond}
 use native.Mathlib.Omega.{arith}
-use lib.Dec.{ltb, eqb}
+use lib.Dec.{T, ltb, eqb}
+use lib.Ieee.Bits.{is-true}
 use borrow.Table.Steps.{cases}
 use borrow.Author.Tests.{lt-ltb, le-ltb, ltb-true, ltb-false}
 use Rattle.definition.specs.Options.{entry, Class, NoOption, Blank, Order, Limit, Number, Chars, ZeroEnded, Counted, Fill, Align, Nothing, Digits, DigitsBehindX, NextByte}
-use Rattle.definition.specs.Ops.{limitOr, needed}
+use Rattle.definition.specs.Ops.{within16, sizeOr, limitOr, needed}
 use Rattle.definition.specs.declared.Kind.the-variants.{Signed, Unsigned}
 use Rattle.definition.specs.Items.{Numeral}
+use Rattle.definition.specs.Items as Numeral
 use Rattle.format.specs.Packed.{kindAt, sizeAt, plainAt, entryAt}
 use Rattle.format.specs.Operands.{sizeBy, operandBy}
 
 -- by whether e is below n
 pub cut : {P : Type 0} (e n : ℕ) → (e < n → P) → (n ≤ e → P) → P
 cut e n low high = cases (ltb e n) (λ q. low (ltb-true e n q)) (λ q. high (ltb-false e n q))
+
+-- an own size of 1 to 16 needs no check
+pub own-size : (n : ℕ) → T (within16 n) → (m : Numeral) → sizeOr n m ≡ sizeBy n m
+own-size n q Numeral.Missing = rw (is-true (within16 n) q)
+own-size n q Numeral.TooLarge = refl
+own-size n q (Numeral.Value v) = refl
 
 module _ (e : ℕ) where
   pub at-fixed : e < 112 → entryAt e ≡ entry (Number (kindAt e)) (sizeAt e) (cond (eqb e 84) DigitsBehindX Nothing)
