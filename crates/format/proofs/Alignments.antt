@@ -38,6 +38,7 @@ takenOf e s = cond (isNumber (e .class) && behindX (e .rule)) (digits s) []
 abbrev pub natural : Entry → List ℕ → Checked (ℕ × ℕ)
 natural e s = taking (suc (length (takenOf e s))) (naturalBy (e .class) (e .rule) (e .size) (numeralOf (takenOf e s)))
 
+-- with the entry e of the first byte
 pub front : (t : Table) (s : List ℕ) → (length s ≡ 0 → ⊥) → getD s 0 0 < 128 → (e : ℕ) → entryAt e ≡ t (getD s 0 0) → natural (entryAt e) (drop 1 s) ≡ naturalAt t s
 unfolding naturalAt nextByte
 front t [] n h e q = absurd (n refl)
@@ -60,7 +61,7 @@ module _ (e : ℕ) (s : List ℕ) where
   pub plain : 112 ≤ e → e < 192 → refused 7 ≡ natural (entryAt e) s
   plain l h = rw (at-plain e l h) (plain-all e (λ c. refused 7 ≡ natural (entry c (sizeAt e) Nothing) s) refl (λ o. refl) refl refl)
 
-  -- i I l L
+  -- i I l L: one byte more than by themselves
   one-more : (c : Checked ℕ) (i : ℕ) → oneMore (taking i c) ≡ taking (suc i) c
   one-more (refused k) i = refl
   one-more (accepted n) i = rw add-one
