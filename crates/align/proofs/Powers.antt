@@ -1,11 +1,12 @@
 -- Powers of two of 1 to 16 by their masks: a power has no bit in common with the number below it, and what a number has
 -- below a power is its remainder.
 use Prim.Native.Nat.{ℕ, zero, suc, _+_, _-_, _%_, _^_, _≤_, _<_}
-use native.Mathlib.Nat.{le-of-suc-le-suc, not-suc-le-zero}
+use native.Mathlib.Nat.{zero-add, add-zero, le-of-suc-le-suc, not-suc-le-zero}
 use native.Mathlib.Omega.{arith}
-use mathlib.Core.Path.{_≡_, refl, _∙_}
-use mathlib.Core.Bool.{Bool, true, false}
+use mathlib.Core.Path.{_≡_, sym, _∙_}
+use mathlib.Core.Bool.{true, false}
 use mathlib.Core.List.{List, [], _∷_}
+use lib.ListN.{getD}
 use lib.Bits.{bitAnd, and-mask}
 use lib.Dec.{eqb, lit≤}
 use borrow.Author.Tests.{ne-eqb}
@@ -13,19 +14,19 @@ use Rattle.definition.specs.Ops.{isPower}
 use Rattle.definition.specs.States.{fill}
 use Rattle.definition.proofs.Ops.{power-cases}
 
--- f at each number below n
-abbrev each : (ℕ → Bool) → ℕ → List Bool
-each f zero = []
-each f (suc n) = f zero ∷ each (λ k. f (suc k)) n
+-- f at i and the n - 1 numbers after it
+abbrev pub each : {A : Type 0} → (ℕ → A) → ℕ → ℕ → List A
+each f i zero = []
+each f i (suc n) = f i ∷ each f (suc i) n
 
-same-at : (f g : ℕ → Bool) (n k : ℕ) → each f n ≡ each g n → k < n → f k ≡ g k
-same-at f g zero k e h = absurd (not-suc-le-zero h)
-same-at f g (suc n) zero e h = cc
-same-at f g (suc n) (suc k) e h = same-at (λ j. f (suc j)) (λ j. g (suc j)) n k (cc) (le-of-suc-le-suc h)
+pub get-each : {A : Type 0} (f : ℕ → A) (i n k : ℕ) (d : A) → k < n → getD (each f i n) k d ≡ f (i + k)
+get-each f i zero k d h = absurd (not-suc-le-zero h)
+get-each f i (suc n) zero d h = rw add-zero
+get-each f i (suc n) (suc k) d h = let q : i + suc k ≡ suc i + k = omega arith in rw q (get-each f (suc i) n k d (le-of-suc-le-suc h))
 
--- the mask m of n, n - 1
+-- the mask m of n, n - 1: all 16 by one equation that antt computes
 pub power-mask : (n m : ℕ) → n ≡ suc m → m < 16 → eqb (bitAnd n m) 0 ≡ isPower n
-power-mask n m e h = rw e (same-at (λ k. eqb (bitAnd (suc k) k) 0) (λ k. isPower (suc k)) 16 m refl h)
+power-mask n m e h = rw (e, ← zero-add m) (sym (get-each (λ k. eqb (bitAnd (suc k) k) 0) 0 16 m false h) ∙ get-each (λ k. isPower (suc k)) 0 16 m false h)
 
 pub power-none : (n : ℕ) → (n ≡ 1 → ⊥) → (n ≡ 2 → ⊥) → (n ≡ 4 → ⊥) → (n ≡ 8 → ⊥) → (n ≡ 16 → ⊥) → isPower n ≡ false
 power-none n h1 h2 h4 h8 h16 = rw (ne-eqb n 1 h1, ne-eqb n 2 h2, ne-eqb n 4 h4, ne-eqb n 8 h8, ne-eqb n 16 h16)

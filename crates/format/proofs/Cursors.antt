@@ -5,14 +5,12 @@ use mathlib.Core.Bool.{Bool, true, false, cond}
 use mathlib.Core.List.{List, _∷_}
 use mathlib.Core.Option.{Option, none, some}
 use native.Mathlib.Omega.{arith}
-use lib.Dec.{T, ltb, eqb}
-use lib.Ieee.Bits.{is-true}
+use lib.Dec.{T, eqb}
 use mir.Facts.{and-yes}
 use lib.ListN.{length, getD, drop, drop-of-length-le}
-use borrow.Author.Tests.{ltb-true, ltb-false}
 use Rattle.definition.specs.Answers.{Checked, refused, accepted, _>>=_}
 use Rattle.definition.specs.Options.{Table, Class, NumeralRule, Nothing, Digits, DigitsBehindX, NextByte, Entry}
-use Rattle.definition.specs.Items.{taken, takenBy, numeralOf, Numeral, Missing, TooLarge, Value}
+use Rattle.definition.specs.Items.{taken, takenBy, numeralOf, Numeral, Missing}
 use Rattle.definition.specs.Ops.{within16, opBy, opWith, opOf}
 use Rattle.definition.proofs.Ops.{entryOk, Sizes}
 use Rattle.definition.specs.Options as Class
@@ -22,7 +20,7 @@ use Rattle.format.specs.Packed.{plainAt, entryAt}
 use Rattle.format.specs.Operands.{operandBy, operandWith, opFor, taking, operandAt}
 use Rattle.format.specs.Steps.{opAt, nextAt}
 use Rattle.numeral.proofs.Digits.{drop-at}
-use Rattle.format.proofs.Entries.{at-fixed, at-plain, at-align, at-none, digits-rule}
+use Rattle.format.proofs.Entries.{cut, at-fixed, at-plain, at-align, at-none, digits-rule, own-size, plain-all}
 
 -- ---- the operation by the operand
 
@@ -36,14 +34,10 @@ op-by Class.NoOption r n h m = refl
 op-by Class.Blank r n h m = refl
 op-by (Class.Order o) r n h m = refl
 op-by Class.Limit r n h m = refl
-op-by (Class.Number k) r n h Missing = rw (is-true (within16 n) (and-yes (within16 n) _ h .0))
-op-by (Class.Number k) r n h TooLarge = refl
-op-by (Class.Number k) r n h (Value v) = refl
+op-by (Class.Number k) r n h m = rw (own-size n (and-yes (within16 n) _ h .0) m)
 op-by Class.Chars r n h m = refl
 op-by Class.ZeroEnded r n h m = refl
-op-by Class.Counted r n h Missing = rw (is-true (within16 n) h)
-op-by Class.Counted r n h TooLarge = refl
-op-by Class.Counted r n h (Value v) = refl
+op-by Class.Counted r n h m = rw (own-size n h m)
 op-by Class.Fill r n h m = refl
 op-by Class.Align r n h m = refl
 
@@ -55,46 +49,33 @@ op-with t NextByte e s x h = rw (x refl)
 
 -- only X takes the next byte
 next-align : (e : ℕ) → entryAt e .rule ≡ NextByte → entryAt e .class ≡ Class.Align
-next-align e q = by112 (ltb e 112) refl
+next-align e q =
+    cut e 112 (λ h. by84 (eqb e 84) (rw (at-fixed e h) at q)) λ l.
+    cut e 192 (λ h. by84 false (rw (at-plain e l h) at q)) λ l.
+    cut e 248 (λ h. digits (rw (digits-rule e l h) at q)) λ l.
+    cut e 252 (λ h. rw (at-align e l h)) λ l.
+    by84 false (rw (at-none e l) at q)
   where
     by84 : (t : Bool) → cond t DigitsBehindX Nothing ≡ NextByte → entryAt e .class ≡ Class.Align
     by84 true p = let z : _≡_ {A = ℕ} 0 1 = cc in absurd (omega arith)
     by84 false p = let z : _≡_ {A = ℕ} 0 1 = cc in absurd (omega arith)
 
-    by252 : (t : Bool) → ltb e 252 ≡ t → 248 ≤ e → entryAt e .class ≡ Class.Align
-    by252 true h l = rw (at-align e l (ltb-true e 252 h))
-    by252 false h l = let p : Nothing ≡ NextByte = sym (ap (λ (x : Entry). x .rule) (at-none e (ltb-false e 252 h))) ∙ q in let z : _≡_ {A = ℕ} 0 1 = cc in absurd (omega arith)
-
-    by248 : (t : Bool) → ltb e 248 ≡ t → 192 ≤ e → entryAt e .class ≡ Class.Align
-    by248 true h l = let p : Digits ≡ NextByte = sym (digits-rule e l (ltb-true e 248 h)) ∙ q in let z : _≡_ {A = ℕ} 0 1 = cc in absurd (omega arith)
-    by248 false h l = by252 (ltb e 252) refl (ltb-false e 248 h)
-
-    by192 : (t : Bool) → ltb e 192 ≡ t → 112 ≤ e → entryAt e .class ≡ Class.Align
-    by192 true h l = let p : Nothing ≡ NextByte = sym (ap (λ (x : Entry). x .rule) (at-plain e l (ltb-true e 192 h))) ∙ q in let z : _≡_ {A = ℕ} 0 1 = cc in absurd (omega arith)
-    by192 false h l = by248 (ltb e 248) refl (ltb-false e 192 h)
-
-    by112 : (t : Bool) → ltb e 112 ≡ t → entryAt e .class ≡ Class.Align
-    by112 true h = by84 (eqb e 84) (sym (ap (λ (x : Entry). x .rule) (at-fixed e (ltb-true e 112 h))) ∙ q)
-    by112 false h = by192 (ltb e 192) refl (ltb-false e 112 h)
+    digits : Digits ≡ NextByte → entryAt e .class ≡ Class.Align
+    digits p = let z : _≡_ {A = ℕ} 0 1 = cc in absurd (omega arith)
 
 -- ---- the item at a place, by its operand
 abbrev pub stepOf : ℕ → ℕ → Checked (ℕ × ℕ) → Checked (Option (Op × ℕ))
 stepOf at e x = x >>= λ r. accepted (some (opAt e (r .0), at + 1 + r .1))
 
+step-of : (at e n : ℕ) (c : Checked ℕ) → (does (entryAt e .class) c >>= λ o. accepted (some (o, at + 1 + n))) ≡ stepOf at e (taking n c)
+step-of at e n (refused k) = refl
+step-of at e n (accepted k) = refl
+
 next-cons : (t : Table) → Sizes t → (at b : ℕ) (s : List ℕ) (e : ℕ) → entryAt e ≡ t b → nextAt t at (b ∷ s) ≡ stepOf at e (operandAt t (entryAt e) s)
 unfolding nextAt taken opOf operandAt
 next-cons t h at b s e q =
-    rw (← q, op-with t (entryAt e .rule) (entryAt e) (takenBy t (entryAt e .rule) s) (next-align e) (rw q (h b))) (go (operandWith t (entryAt e .rule) (entryAt e) (takenBy t (entryAt e .rule) s)))
-  where
-    n : ℕ
-    n = length (takenBy t (entryAt e .rule) s)
-
-    placed : Op → Checked (Option (Op × ℕ))
-    placed o = accepted (some (o, at + 1 + n))
-
-    go : (c : Checked ℕ) → ((c >>= λ k. accepted (opFor (entryAt e .class) k)) >>= λ o. placed o) ≡ stepOf at e (taking n c)
-    go (refused k) = refl
-    go (accepted k) = refl
+    let l = takenBy t (entryAt e .rule) s in
+    rw (← q, op-with t (entryAt e .rule) (entryAt e) l (next-align e) (rw q (h b))) (step-of at e (length l) (operandWith t (entryAt e .rule) (entryAt e) l))
 
 pub next-end : (t : Table) (s : List ℕ) (at : ℕ) → length s ≤ at → accepted none ≡ nextAt t at (drop at s)
 unfolding nextAt
@@ -107,20 +88,8 @@ next-step t d s at h e q x p = ap (stepOf at e) p ∙ sym (ap (nextAt t at) (dro
 
 -- what has no operand does the same with any
 pub plain-op : (e n : ℕ) → opFor (plainAt e) 0 ≡ opFor (plainAt e) n
-unfolding plainAt
-plain-op e n = go (eqb e 112) (eqb e 128) (eqb e 144) (eqb e 160)
-  where
-    go : (a b c d : Bool) → opFor (cond a Class.Blank (cond b (Class.Order false) (cond c (Class.Order true) (cond d Class.Fill Class.ZeroEnded)))) 0 ≡ opFor (cond a Class.Blank (cond b (Class.Order false) (cond c (Class.Order true) (cond d Class.Fill Class.ZeroEnded)))) n
-    go true b c d = refl
-    go false true c d = refl
-    go false false true d = refl
-    go false false false true = refl
-    go false false false false = refl
+plain-op e n = plain-all e (λ c. opFor c 0 ≡ opFor c n) refl (λ o. refl) refl refl
 
 -- X, and what is no option
 pub align-op : (e n : ℕ) → 248 ≤ e → Op.Pad n 0 ≡ opAt e n
-align-op e n l = go (ltb e 252) refl
-  where
-    go : (t : Bool) → ltb e 252 ≡ t → Op.Pad n 0 ≡ opAt e n
-    go true q = rw (at-align e l (ltb-true e 252 q))
-    go false q = rw (at-none e (ltb-false e 252 q))
+align-op e n l = cut e 252 (λ h. rw (at-align e l h)) λ k. rw (at-none e k)

@@ -3,15 +3,27 @@ use Prim.Native.Nat.{ℕ, _≤_, _<_}
 use mathlib.Core.Path.{_≡_, refl}
 use mathlib.Core.Bool.{Bool, true, false, cond}
 use native.Mathlib.Omega.{arith}
-use lib.Dec.{ltb, eqb}
+use lib.Dec.{T, ltb, eqb}
+use lib.Ieee.Bits.{is-true}
+use borrow.Table.Steps.{cases}
 use borrow.Author.Tests.{lt-ltb, le-ltb, ltb-true, ltb-false}
-use Rattle.definition.specs.Answers.{accepted}
-use Rattle.definition.specs.Options.{entry, NoOption, Blank, Order, Limit, Number, Chars, ZeroEnded, Counted, Fill, Align, Nothing, Digits, DigitsBehindX, NextByte}
-use Rattle.definition.specs.Ops.{limitOr, needed}
+use Rattle.definition.specs.Options.{entry, Class, NoOption, Blank, Order, Limit, Number, Chars, ZeroEnded, Counted, Fill, Align, Nothing, Digits, DigitsBehindX, NextByte}
+use Rattle.definition.specs.Ops.{within16, sizeOr, limitOr, needed}
 use Rattle.definition.specs.declared.Kind.the-variants.{Signed, Unsigned}
-use Rattle.definition.specs.Items.{Numeral, Missing}
+use Rattle.definition.specs.Items.{Numeral}
+use Rattle.definition.specs.Items as Numeral
 use Rattle.format.specs.Packed.{kindAt, sizeAt, plainAt, entryAt}
 use Rattle.format.specs.Operands.{sizeBy, operandBy}
+
+-- by whether e is below n
+pub cut : {P : Type 0} (e n : ℕ) → (e < n → P) → (n ≤ e → P) → P
+cut e n low high = cases (ltb e n) (λ q. low (ltb-true e n q)) (λ q. high (ltb-false e n q))
+
+-- an own size of 1 to 16 needs no check
+pub own-size : (n : ℕ) → T (within16 n) → (m : Numeral) → sizeOr n m ≡ sizeBy n m
+own-size n q Numeral.Missing = rw (is-true (within16 n) q)
+own-size n q Numeral.TooLarge = refl
+own-size n q (Numeral.Value v) = refl
 
 module _ (e : ℕ) where
   pub at-fixed : e < 112 → entryAt e ≡ entry (Number (kindAt e)) (sizeAt e) (cond (eqb e 84) DigitsBehindX Nothing)
@@ -52,35 +64,19 @@ module _ (e : ℕ) where
 
   -- an option that may have a numeral takes digits
   pub digits-rule : 192 ≤ e → e < 248 → entryAt e .rule ≡ Digits
-  digits-rule l h = by208 (ltb e 208) refl
-    where
-      by244 : (t : Bool) → ltb e 244 ≡ t → 240 ≤ e → entryAt e .rule ≡ Digits
-      by244 true q m = rw (at-chars m (ltb-true e 244 q))
-      by244 false q m = rw (at-limit (ltb-false e 244 q) h)
-
-      by240 : (t : Bool) → ltb e 240 ≡ t → 224 ≤ e → entryAt e .rule ≡ Digits
-      by240 true q m = rw (at-counted m (ltb-true e 240 q))
-      by240 false q m = by244 (ltb e 244) refl (ltb-false e 240 q)
-
-      by224 : (t : Bool) → ltb e 224 ≡ t → 208 ≤ e → entryAt e .rule ≡ Digits
-      by224 true q m = rw (at-unsigned m (ltb-true e 224 q))
-      by224 false q m = by240 (ltb e 240) refl (ltb-false e 224 q)
-
-      by208 : (t : Bool) → ltb e 208 ≡ t → entryAt e .rule ≡ Digits
-      by208 true q = rw (at-signed l (ltb-true e 208 q))
-      by208 false q = by224 (ltb e 224) refl (ltb-false e 208 q)
+  digits-rule l h =
+      cut e 208 (λ k. rw (at-signed l k)) λ l.
+      cut e 224 (λ k. rw (at-unsigned l k)) λ l.
+      cut e 240 (λ k. rw (at-counted l k)) λ l.
+      cut e 244 (λ k. rw (at-chars l k)) λ l.
+      rw (at-limit l h)
 
   -- i I l L s
   pub sized-by : 192 ≤ e → e < 240 → (m : Numeral) → operandBy (entryAt e .class) (entryAt e .size) m ≡ sizeBy (sizeAt e) m
-  sized-by l h m = by208 (ltb e 208) refl
-    where
-      by224 : (t : Bool) → ltb e 224 ≡ t → 208 ≤ e → operandBy (entryAt e .class) (entryAt e .size) m ≡ sizeBy (sizeAt e) m
-      by224 true q k = rw (at-unsigned k (ltb-true e 224 q))
-      by224 false q k = rw (at-counted (ltb-false e 224 q) h)
-
-      by208 : (t : Bool) → ltb e 208 ≡ t → operandBy (entryAt e .class) (entryAt e .size) m ≡ sizeBy (sizeAt e) m
-      by208 true q = rw (at-signed l (ltb-true e 208 q))
-      by208 false q = by224 (ltb e 224) refl (ltb-false e 208 q)
+  sized-by l h m =
+      cut e 208 (λ k. rw (at-signed l k)) λ l.
+      cut e 224 (λ k. rw (at-unsigned l k)) λ l.
+      rw (at-counted l h)
 
   -- c, and !
   pub chars-by : 240 ≤ e → e < 244 → (m : Numeral) → operandBy (entryAt e .class) (entryAt e .size) m ≡ needed m
@@ -89,14 +85,14 @@ module _ (e : ℕ) where
   pub limit-by : 244 ≤ e → e < 248 → (m : Numeral) → operandBy (entryAt e .class) (entryAt e .size) m ≡ limitOr 8 m
   limit-by l h m = rw (at-limit l h)
 
-  -- what has no operand
-  pub plain-by : (n : ℕ) → operandBy (plainAt e) n Missing ≡ accepted n
+  -- a statement about what has no operand, class by class
+  pub plain-all : (P : Class → Type 0) → P Blank → ((o : Bool) → P (Order o)) → P Fill → P ZeroEnded → P (plainAt e)
   unfolding plainAt
-  plain-by n = go (eqb e 112) (eqb e 128) (eqb e 144) (eqb e 160)
+  plain-all P blank order fill ended = go (eqb e 112) (eqb e 128) (eqb e 144) (eqb e 160)
     where
-      go : (a b c d : Bool) → operandBy (cond a Blank (cond b (Order false) (cond c (Order true) (cond d Fill ZeroEnded)))) n Missing ≡ accepted n
-      go true b c d = refl
-      go false true c d = refl
-      go false false true d = refl
-      go false false false true = refl
-      go false false false false = refl
+      go : (a b c d : Bool) → P (cond a Blank (cond b (Order false) (cond c (Order true) (cond d Fill ZeroEnded))))
+      go true b c d = blank
+      go false true c d = order false
+      go false false true d = order true
+      go false false false true = fill
+      go false false false false = ended

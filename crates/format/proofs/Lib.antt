@@ -1,4 +1,3 @@
-pub mod Tabulate
 pub mod Table
 pub mod Entries
 pub mod Numerals

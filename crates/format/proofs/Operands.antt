@@ -1,12 +1,11 @@
 -- The operand of X and of a byte that is no option, and how many bytes an option takes.
 use Prim.Native.Nat.{ℕ, _^_, _≤_, _<_}
-use mathlib.Core.Path.{_≡_, refl, sym, ap, _∙_}
+use mathlib.Core.Path.{_≡_, refl, sym, ap}
 use mathlib.Core.Bool.{Bool, true, false, cond}
 use mathlib.Core.List.{List}
 use native.Mathlib.Omega.{arith}
-use lib.Dec.{ltb, eqb}
+use lib.Dec.{eqb}
 use lib.ListN.{length}
-use borrow.Author.Tests.{ltb-true, ltb-false}
 use Rattle.definition.specs.Answers.{Checked, refused, accepted}
 use Rattle.definition.specs.Options.{Table, entry, Nothing, DigitsBehindX, Number, Entry}
 use Rattle.definition.specs.Items.{takenBy}
@@ -17,7 +16,7 @@ use Rattle.format.specs.declared.operand.Behind.{Behind}
 use Rattle.format.specs.declared.operand.Operand.{Operand}
 use Rattle.format.specs.declared.operand.Operand.the-variants as Operand
 use Rattle.format.proofs.Taken.{taken-length}
-use Rattle.format.proofs.Entries.{at-fixed, at-plain, at-align, at-none, plain-by}
+use Rattle.format.proofs.Entries.{cut, at-fixed, at-plain, at-align, at-none, plain-all}
 
 -- ---- how many bytes are taken
 taking-count : (c : Checked ℕ) (i n j : ℕ) → taking i c ≡ accepted (n, j) → j ≡ i
@@ -33,13 +32,10 @@ room t (Operand.Refused k) e s q h = tt
 room t (Operand.Of n i) e s q h = omega (arith, operand-count t e s n i (sym q))
 
 -- ---- X, and a byte that is no option
-pub operand-x : (t : Table) (e : ℕ) → 248 ≤ e → e < 252 → (s : List ℕ) → naturalAt t s ≡ operandAt t (entryAt e) s
-unfolding operandAt naturalAt
-operand-x t e l h s = rw (at-align e l h)
-
 -- what the answer y says of s, which follows X
 pub behind-is : (t : Table) (e : ℕ) → 248 ≤ e → e < 252 → (s : List ℕ) (x y : Behind) → x ≡ y → behindOf t x s ≡ naturalAt t s → behindOf t y s ≡ operandAt t (entryAt e) s
-behind-is t e l h s x y q p = ap (λ (z : Behind). behindOf t z s) (sym q) ∙ p ∙ operand-x t e l h s
+unfolding operandAt naturalAt
+behind-is t e l h s x y q p = rw (at-align e l h) (rw q at p)
 
 pub operand-none : (t : Table) (e : ℕ) → 252 ≤ e → (s : List ℕ) → refused 1 ≡ operandAt t (entryAt e) s
 unfolding operandAt
@@ -52,8 +48,6 @@ fixed-with t e s true q r = rw (r, q)
 fixed-with t e s false q r = rw (r, q)
 
 pub operand-bare : (t : Table) (e : ℕ) → e < 192 → (s : List ℕ) → accepted (sizeAt e, 0) ≡ operandAt t (entryAt e) s
-operand-bare t e h s = go (ltb e 112) refl
-  where
-    go : (x : Bool) → ltb e 112 ≡ x → accepted (sizeAt e, 0) ≡ operandAt t (entryAt e) s
-    go true q = rw (at-fixed e (ltb-true e 112 q)) (fixed-with t (entry (Number (kindAt e)) (sizeAt e) (cond (eqb e 84) DigitsBehindX Nothing)) s (eqb e 84) refl refl)
-    go false q = rw (at-plain e (ltb-false e 112 q) h) (fixed-with t (entry (plainAt e) (sizeAt e) Nothing) s false (plain-by e (sizeAt e)) refl)
+operand-bare t e h s =
+    cut e 112 (λ k. rw (at-fixed e k) (fixed-with t (entry (Number (kindAt e)) (sizeAt e) (cond (eqb e 84) DigitsBehindX Nothing)) s (eqb e 84) refl refl)) λ l.
+    rw (at-plain e l h) (fixed-with t (entry (plainAt e) (sizeAt e) Nothing) s false (plain-all e (λ c. operandBy c (sizeAt e) Numeral.Missing ≡ accepted (sizeAt e)) refl (λ o. refl) refl refl) refl)

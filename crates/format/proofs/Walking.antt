@@ -12,29 +12,17 @@ use Rattle.definition.specs.Options.{Table}
 use Rattle.definition.specs.Items.{Item, item, taken}
 use Rattle.definition.specs.Ops.{opOf, ops}
 use Rattle.definition.specs.declared.Op.{Op}
+use Rattle.definition.proofs.Answers.{bound}
 use Rattle.definition.proofs.Items.{items-nil, items-cons}
 use Rattle.definition.proofs.Ops.{validOp, Sizes, op-valid}
 use Rattle.definition.proofs.Parts.{after-nothing, after-after}
 use Rattle.format.specs.Steps.{nextAt}
 use Rattle.format.proofs.Taken.{taken-length}
 
--- what an item's check and a place make, taken apart
-abbrev answer : ℕ → Checked Op → Checked (Option (Op × ℕ))
-answer p c = c >>= λ o. accepted (some (o, p))
-
-answer-refused : (c : Checked Op) (p k : ℕ) → answer p c ≡ refused k → c ≡ refused k
-answer-refused (refused j) p k q = let e : j ≡ k = cc in ap refused e
-answer-refused (accepted o) p k q = let z : _≡_ {A = ℕ} 0 1 = cc in absurd (omega arith)
-
-answer-some : (c : Checked Op) (p : ℕ) (x : Option (Op × ℕ)) → answer p c ≡ accepted x → x ≡ none → ⊥
-answer-some (refused k) p x q e = let z : _≡_ {A = ℕ} 0 1 = cc in omega arith
-answer-some (accepted o) p x q e = let z : _≡_ {A = ℕ} 0 1 = cc in omega arith
-
-answer-item : (c : Checked Op) (p : ℕ) (o : Op) (n : ℕ) → answer p c ≡ accepted (some (o, n)) → (c ≡ accepted o) × (p ≡ n)
-answer-item (refused k) p o n q = let z : _≡_ {A = ℕ} 0 1 = cc in absurd (omega arith)
-answer-item (accepted w) p o n q =
-    let e : _≡_ {A = Op × ℕ} (w, p) (o, n) = cc in
-    (ap (λ (x : Op × ℕ). accepted (x .0)) e, ap (λ (x : Op × ℕ). x .1) e)
+-- an item's check refuses as what it makes with a place does
+check-refused : (c : Checked Op) (p k : ℕ) → _>>=_ {B = Option (Op × ℕ)} c (λ o. accepted (some (o, p))) ≡ refused k → c ≡ refused k
+check-refused (refused j) p k q = let e : j ≡ k = cc in ap refused e
+check-refused (accepted o) p k q = let z : _≡_ {A = ℕ} 0 1 = cc in absurd (omega arith)
 
 -- by the table t, the item of the format f at a place does o, and the next one stands at the place p
 pub record Step (t : Table) (f : List ℕ) (at : ℕ) (o : Op) (p : ℕ) : Type 0 where
@@ -56,7 +44,7 @@ module _ (t : Table) where
       where
         go : (l : List ℕ) → nextAt t at l ≡ accepted none → ops t l ≡ []
         go [] q = ap (map (opOf t)) (items-nil t)
-        go (b ∷ s) q = absurd (answer-some (opOf t (item b (taken t b s))) (at + 1 + length (taken t b s)) none q refl)
+        go (b ∷ s) q = let x = bound (opOf t (item b (taken t b s))) _ q .rest in let z : _≡_ {A = ℕ} 0 1 = cc in absurd (omega arith)
 
     pub at-refusal : (k : ℕ) → nextAt t at (drop at f) ≡ refused k → (rest : List (Checked Op)) × (ops t (drop at f) ≡ refused k ∷ rest)
     unfolding nextAt
@@ -66,7 +54,7 @@ module _ (t : Table) where
         go [] e q = let z : _≡_ {A = ℕ} 0 1 = cc in absurd (omega arith)
         go (b ∷ s) e q =
             let rest : List (Checked Op) = ops t (drop (length (taken t b s)) s) in
-            (rest, ap (ops t) e ∙ ops-cons b s ∙ ap (λ (c : Checked Op). c ∷ rest) (answer-refused (opOf t (item b (taken t b s))) (at + 1 + length (taken t b s)) k q))
+            (rest, ap (ops t) e ∙ ops-cons b s ∙ ap (λ (c : Checked Op). c ∷ rest) (check-refused (opOf t (item b (taken t b s))) (at + 1 + length (taken t b s)) k q))
 
     pub at-item : (o : Op) (p : ℕ) → nextAt t at (drop at f) ≡ accepted (some (o, p)) → Step t f at o p
     unfolding nextAt taken
@@ -79,14 +67,17 @@ module _ (t : Table) where
         go [] e h q = let z : _≡_ {A = ℕ} 0 1 = cc in absurd (omega arith)
         go (b ∷ s) e h q =
             let n = length (taken t b s) in
-            let x = answer-item (opOf t (item b (taken t b s))) (at + 1 + n) o p q in
-            let m = x .1 in
+            let x = bound (opOf t (item b (taken t b s))) _ q in
+            let r = x .rest in
+            let w : _≡_ {A = Op × ℕ} (x .val, at + 1 + n) (o, p) = cc in
+            let d : opOf t (item b (taken t b s)) ≡ accepted o = x .is ∙ ap (λ (y : Op × ℕ). accepted (y .0)) w in
+            let m : at + 1 + n ≡ p = ap (λ (y : Op × ℕ). y .1) w in
             let i : n ≤ length s = taken-length t (t b .rule) s in
             let rest : drop n s ≡ drop p f = same b s n e ∙ ap (λ (k : ℕ). drop k f) m in
             record {
               first = item b (taken t b s);
-              does = x .0;
-              are = ap (ops t) e ∙ ops-cons b s ∙ (λ j. (x .0) j ∷ ops t (rest j));
+              does = d;
+              are = ap (ops t) e ∙ ops-cons b s ∙ (λ j. d j ∷ ops t (rest j));
               ahead = omega arith;
               inside = omega arith;
             }

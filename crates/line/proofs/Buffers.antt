@@ -1,7 +1,6 @@
 -- Texts and numbers put into a buffer, one after the other.
 use Prim.Native.Nat.{ℕ, zero, suc, _+_, _/_, _%_, _^_, _≤_, _<_}
 use mathlib.Core.Path.{_≡_, refl, sym, ap, _∙_}
-use mathlib.Core.Bool.{Bool, true, false, cond}
 use mathlib.Core.List.{List, [], _∷_, _++_, append-assoc}
 use native.Mathlib.Nat.{zero-add, pow-suc, le-refl}
 use native.Mathlib.Omega.{arith}
@@ -9,6 +8,7 @@ use lib.Dec.{ltb}
 use lib.ListN.{length, drop, set, length-append}
 use lib.Seq.{paste, length-paste, take-length}
 use borrow.Author.Tests.{lt-ltb, le-ltb}
+use borrow.Table.Steps.{cases}
 use Rattle.definition.specs.Program.{decimalIn, decimal}
 use Rattle.coder.proofs.Pasting.{set-paste, paste-on}
 
@@ -37,30 +37,19 @@ decimal-small n h = rw (lt-ltb n 10 h)
 enough : (k n : ℕ) → n < 10 ^ suc k → decimalIn (suc k) n ≡ decimalIn (suc (suc k)) n
 unfolding decimalIn
 enough zero n h = let q : n < 10 = omega (arith, pow-suc 10 0) in rw (lt-ltb n 10 q)
-enough (suc k) n h = go (ltb n 10) (enough k (n / 10) (omega (arith, pow-suc 10 (suc k))))
-  where
-    go : (t : Bool) → decimalIn (suc k) (n / 10) ≡ decimalIn (suc (suc k)) (n / 10) → cond t ((48 + n) ∷ []) (decimalIn (suc k) (n / 10) ++ ((48 + n % 10) ∷ [])) ≡ cond t ((48 + n) ∷ []) (decimalIn (suc (suc k)) (n / 10) ++ ((48 + n % 10) ∷ []))
-    go true ih = refl
-    go false ih = ap (λ (l : List ℕ). l ++ ((48 + n % 10) ∷ [])) ih
+enough (suc k) n h = cases (ltb n 10) (λ q. rw q) (λ q. rw (q, enough k (n / 10) (omega (arith, pow-suc 10 (suc k)))))
 
 nineteen : (n : ℕ) → n < 2 ^ 64 → decimalIn 19 (n / 10) ≡ decimal (n / 10)
 nineteen n h = enough 18 (n / 10) (omega arith)
 
-decimal-in : (n : ℕ) → 10 ≤ n → decimal n ≡ decimalIn 19 (n / 10) ++ ((48 + n % 10) ∷ [])
-unfolding decimalIn
-decimal-in n h = rw (le-ltb n 10 h)
-
 pub decimal-large : (n : ℕ) → n < 2 ^ 64 → 10 ≤ n → decimal n ≡ decimal (n / 10) ++ ((48 + n % 10) ∷ [])
-decimal-large n f h = decimal-in n h ∙ ap (λ (l : List ℕ). l ++ ((48 + n % 10) ∷ [])) (nineteen n f)
+unfolding decimalIn
+decimal-large n f h = rw (le-ltb n 10 h) (ap (λ (l : List ℕ). l ++ ((48 + n % 10) ∷ [])) (nineteen n f))
 
 length-decimal : (k n : ℕ) → length (decimalIn k n) ≤ k
 unfolding decimalIn
 length-decimal zero n = omega arith
-length-decimal (suc k) n = go (ltb n 10) (length-decimal k (n / 10))
-  where
-    go : (t : Bool) → length (decimalIn k (n / 10)) ≤ k → length (cond t ((48 + n) ∷ []) (decimalIn k (n / 10) ++ ((48 + n % 10) ∷ []))) ≤ suc k
-    go true h = omega arith
-    go false h = rw length-append (omega arith)
+length-decimal (suc k) n = cases (ltb n 10) (λ q. rw q (omega arith)) (λ q. rw (q, length-append) (omega (arith, length-decimal k (n / 10))))
 
 -- what stands before the last digit is at most 19 digits
 pub length-before : (n : ℕ) → n < 2 ^ 64 → length (decimal (n / 10)) ≤ 19
@@ -87,15 +76,13 @@ module _ (o : List ℕ) (at n p : ℕ) (b : List ℕ) (f : n < 2 ^ 64) (r : at +
             ∙ put-byte o at (decimal (n / 10)) x (omega (arith, length-before n f)) ∙ ap (λ (y : ℕ). put o at (decimal (n / 10) ++ (y ∷ []))) d ∙ ap (put o at) (sym l),
       )
 
--- ---- a line put into a buffer: what each of its parts leaves
-pub line-length : (l d e : List ℕ) (i j k : ℕ) → i ≡ 0 + length l → j ≡ i + length d → k ≡ j + length e → k ≡ length (l ++ (d ++ e))
-line-length l d e i j k p q r = omega (arith, length-append l (d ++ e), length-append d e)
-
-pub line-held : (o l d e : List ℕ) (i j : ℕ) → i ≡ 0 + length l → j ≡ i + length d → length l + (length d + length e) ≤ length o
-    → (x y z : List ℕ) → x ≡ put o 0 l → y ≡ put x i d → z ≡ put y j e → z ≡ (l ++ (d ++ e)) ++ drop (length (l ++ (d ++ e))) o
-line-held o l d e i j p q h x y z ex ey ez =
-    let i' : i ≡ length l = p ∙ zero-add (length l) in
-    let a : y ≡ put o 0 (l ++ d) = ey ∙ ap (λ (v : List ℕ). put v i d) ex ∙ ap (λ (k : ℕ). put (put o 0 l) k d) p ∙ put-put o 0 l d (omega arith) in
-    let j' : j ≡ 0 + length (l ++ d) = omega (arith, length-append l d) in
-    ez ∙ ap (λ (v : List ℕ). put v j e) a ∙ ap (λ (k : ℕ). put (put o 0 (l ++ d)) k e) j' ∙ put-put o 0 (l ++ d) e (omega (arith, length-append l d))
-    ∙ ap (put o 0) (append-assoc l d e) ∙ put-front o (l ++ (d ++ e))
+-- ---- a line put into a buffer, part after part
+pub line-put : (o l d e : List ℕ) → length l + (length d + length e) ≤ length o → (i j k : ℕ) → i ≡ 0 + length l → j ≡ i + length d → k ≡ j + length e
+    → (x y z : List ℕ) → x ≡ put o 0 l → y ≡ put x i d → z ≡ put y j e → (k ≡ length (l ++ (d ++ e))) × (z ≡ (l ++ (d ++ e)) ++ drop (length (l ++ (d ++ e))) o)
+line-put o l d e h i j k p q r x y z ex ey ez =
+    let n = length-append l d in
+    let a : y ≡ put o 0 (l ++ d) = ey ∙ ap (λ (v : List ℕ). put v i d) ex ∙ ap (λ (m : ℕ). put (put o 0 l) m d) p ∙ put-put o 0 l d (omega arith) in
+    let j' : j ≡ 0 + length (l ++ d) = omega arith in (
+      omega (arith, length-append l (d ++ e), length-append d e),
+      ez ∙ ap (λ (v : List ℕ). put v j e) a ∙ ap (λ (m : ℕ). put (put o 0 (l ++ d)) m e) j' ∙ put-put o 0 (l ++ d) e (omega arith) ∙ ap (put o 0) (append-assoc l d e) ∙ put-front o (l ++ (d ++ e)),
+    )

@@ -3,13 +3,14 @@ use Prim.Native.Nat.{ℕ, zero, suc, _+_, _*_, _-_, _^_, _≤_, _<_}
 use mathlib.Core.Path.{_≡_, refl, sym, ap, _∙_}
 use mathlib.Core.Bool.{Bool, true, false, cond}
 use mathlib.Core.List.{List, [], _∷_}
-use native.Mathlib.Nat.{add-zero, zero-add, le-refl, le-trans, min-le-left, min-le-right}
+use native.Mathlib.Nat.{add-zero, zero-add, le-refl, le-trans}
 use native.Mathlib.Numerals.{add-one}
 use native.Mathlib.Omega.{arith}
 use lib.Dec.{ltb, leb, eqb}
 use lib.ListN.{length, getD, take, drop, length-take, length-drop, drop-of-length-le}
 use lib.Seq.{drop-cons, take-all}
-use borrow.Author.Tests.{lt-ltb, le-ltb, ltb-false, leb-true, ne-eqb}
+use borrow.Author.Tests.{lt-ltb, le-ltb, ltb-false, leb-true, eqb-true, eqb-false, ne-eqb}
+use borrow.Table.Steps.{cases}
 use Rattle.definition.specs.Items.{isDigit, digits, value, numeralOf}
 use Rattle.definition.specs.Items as Numeral
 use Rattle.definition.proofs.Answers.{both-parts}
@@ -49,11 +50,11 @@ first-inside (b ∷ s) (suc at) e = omega (arith, first-inside s at e)
 first-digit : (s : List ℕ) (at : ℕ) → digitFirst (drop at s) ≡ true → isDigit (getD s at 0) ≡ true
 first-digit s at e = sym (first-at s at (first-inside s at e)) ∙ e
 
-pub first-48 : (s : List ℕ) (at : ℕ) → digitFirst (drop at s) ≡ true → 48 ≤ getD s at 0
-first-48 s at e = leb-true 48 (getD s at 0) (both-parts (leb 48 (getD s at 0)) (leb (getD s at 0) 57) (first-digit s at e) .0)
-
-first-57 : (s : List ℕ) (at : ℕ) → digitFirst (drop at s) ≡ true → getD s at 0 ≤ 57
-first-57 s at e = leb-true (getD s at 0) 57 (both-parts (leb 48 (getD s at 0)) (leb (getD s at 0) 57) (first-digit s at e) .1)
+-- a digit is a byte of 48 to 57
+pub first-byte : (s : List ℕ) (at : ℕ) → digitFirst (drop at s) ≡ true → (48 ≤ getD s at 0) × (getD s at 0 ≤ 57)
+first-byte s at e =
+    let b = both-parts (leb 48 (getD s at 0)) (leb (getD s at 0) 57) (first-digit s at e) in
+    (leb-true 48 (getD s at 0) (b .0), leb-true (getD s at 0) 57 (b .1))
 
 -- ---- digits
 pub digits-stop : (s : List ℕ) → digitFirst s ≡ false → digits s ≡ []
@@ -61,34 +62,26 @@ unfolding digits
 digits-stop [] e = refl
 digits-stop (b ∷ s) e = rw e
 
-digits-cons : (b : ℕ) (s : List ℕ) → isDigit b ≡ true → digits (b ∷ s) ≡ b ∷ digits s
-unfolding digits
-digits-cons b s e = rw e
-
 pub digits-more : (s : List ℕ) (at : ℕ) → digitFirst (drop at s) ≡ true → digits (drop at s) ≡ getD s at 0 ∷ digits (drop (at + 1) s)
-digits-more s at e =
-    let h : at < length s = first-inside s at e in
-    ap digits (drop-at s at h) ∙ digits-cons (getD s at 0) (drop (at + 1) s) (first-digit s at e)
+unfolding digits
+digits-more s at e = rw (drop-at s at (first-inside s at e), first-digit s at e)
 
 pub digit-length : (s : List ℕ) (i : ℕ) → digitFirst (drop i s) ≡ true → i + 1 + length (digits (drop (i + 1) s)) ≡ i + length (digits (drop i s))
 digit-length s i e = rw (digits-more s i e) (omega arith)
 
+pub digit-none : (s : List ℕ) (i : ℕ) → digitFirst (drop i s) ≡ false → i ≡ i + length (digits (drop i s))
+digit-none s i e = rw (digits-stop (drop i s) e) (omega arith)
+
 pub digits-length : (s : List ℕ) → length (digits s) ≤ length s
 unfolding digits
 digits-length [] = omega arith
-digits-length (b ∷ s) = go (isDigit b) (digits-length s)
-  where
-    go : (t : Bool) → length (digits s) ≤ length s → length (cond t (b ∷ digits s) []) ≤ suc (length s)
-    go true h = omega arith
-    go false h = omega arith
+digits-length (b ∷ s) = cases (isDigit b) (λ q. rw q (omega (arith, digits-length s))) (λ q. rw q (omega arith))
 
--- a zero in front changes no value
-pub zero-value : (s : List ℕ) (i : ℕ) → i < length s → getD s i 0 ≡ 48 → value 0 (digits (drop (i + 1) s)) ≡ value 0 (digits (drop i s))
+-- a zero in front changes no value, and no end
+pub zero-passed : (s : List ℕ) (i : ℕ) → i < length s → getD s i 0 ≡ 48
+    → (value 0 (digits (drop (i + 1) s)) ≡ value 0 (digits (drop i s))) × (i + 1 + length (digits (drop (i + 1) s)) ≡ i + length (digits (drop i s)))
 unfolding value
-zero-value s i h e = rw (digits-more s i (first-at s i h ∙ ap isDigit e), e)
-
-pub zero-length : (s : List ℕ) (i : ℕ) → i < length s → getD s i 0 ≡ 48 → i + 1 + length (digits (drop (i + 1) s)) ≡ i + length (digits (drop i s))
-zero-length s i h e = digit-length s i (first-at s i h ∙ ap isDigit e)
+zero-passed s i h e = let d = first-at s i h ∙ ap isDigit e in (rw (digits-more s i d, e), digit-length s i d)
 
 -- ---- the next digit
 pub on-end : (n : ℕ) (s : List ℕ) (left : ℕ) → left ≡ 0 → digitOn n (take left s) ≡ Digit.Stop
@@ -101,21 +94,9 @@ on-stop n s zero e = refl
 on-stop n [] (suc left) e = refl
 on-stop n (b ∷ s) (suc left) e = rw e
 
-on-cons : (n b : ℕ) (s : List ℕ) → isDigit b ≡ true → digitOn n (b ∷ s) ≡ grown (n * 10 + (b - 48))
+pub on-digit : (n : ℕ) (s : List ℕ) (at left : ℕ) → 0 < left → digitFirst (drop at s) ≡ true → digitOn n (take left (drop at s)) ≡ grown (n * 10 + (getD s at 0 - 48))
 unfolding digitOn
-on-cons n b s e = rw e
-
-module _ (n : ℕ) (s : List ℕ) (at left : ℕ) (l : 0 < left) (e : digitFirst (drop at s) ≡ true) where
-  on-digit : digitOn n (take left (drop at s)) ≡ grown (n * 10 + (getD s at 0 - 48))
-  on-digit =
-      let some = on-cons n (getD s at 0) (take (left - 1) (drop (at + 1) s)) (first-digit s at e) in
-      rw (left-at s at left (first-inside s at e) l) some
-
-  pub on-fits : n * 10 + (getD s at 0 - 48) < 2 ^ 64 → digitOn n (take left (drop at s)) ≡ Digit.More (n * 10 + (getD s at 0 - 48))
-  on-fits h = on-digit ∙ rw (lt-ltb (n * 10 + (getD s at 0 - 48)) (2 ^ 64) h)
-
-  pub on-large : 2 ^ 64 ≤ n * 10 + (getD s at 0 - 48) → digitOn n (take left (drop at s)) ≡ Digit.TooLarge
-  on-large h = on-digit ∙ rw (le-ltb (n * 10 + (getD s at 0 - 48)) (2 ^ 64) h)
+on-digit n s at left l e = rw (left-at s at left (first-inside s at e) l, first-digit s at e)
 
 -- a further digit has a byte
 on-some : (n : ℕ) (s : List ℕ) (m : ℕ) → digitOn n s ≡ Digit.More m → 0 < length s
@@ -127,8 +108,6 @@ pub more-inside : (n : ℕ) (s : List ℕ) (at left m : ℕ) → digitOn n (take
 more-inside n s at left m e =
     let h : 0 < length (take left (drop at s)) = on-some n (take left (drop at s)) m e in
     let k = rw (length-take, length-drop) at h in
-    let l = min-le-left left (length s - at) in
-    let r = min-le-right left (length s - at) in
     (omega arith, omega arith)
 
 -- ---- the digits from a place on
@@ -150,29 +129,16 @@ read-none n at h = rw (lt-ltb n (2 ^ 64) h, add-zero)
 
 read-digit : (n at b : ℕ) (s : List ℕ) → readOn n at (b ∷ digits s) ≡ onward n at (b ∷ s) (grown (n * 10 + (b - 48)))
 unfolding readOn value
-read-digit n at b s = go (ltb m (2 ^ 64)) refl
-  where
-    m : ℕ
-    m = n * 10 + (b - 48)
-
-    v : ℕ
-    v = value m (digits s)
-
-    k : ℕ
-    k = length (digits s)
-
-    go : (t : Bool) → ltb m (2 ^ 64) ≡ t → cond (ltb v (2 ^ 64)) (Value v (at + suc k)) TooLarge ≡ onward n at (b ∷ s) (cond t (Digit.More m) Digit.TooLarge)
-    go true h = let q : at + suc k ≡ at + 1 + k = omega arith in rw q
-    go false h = rw (le-ltb v (2 ^ 64) (le-trans (ltb-false m (2 ^ 64) h) (le-value m (digits s))))
+read-digit n at b s =
+    let m = n * 10 + (b - 48) in
+    let v = value m (digits s) in
+    let q : at + suc (length (digits s)) ≡ at + 1 + length (digits s) = omega arith in
+    cases (ltb m (2 ^ 64)) (λ h. rw (h, q)) (λ h. rw (h, le-ltb v (2 ^ 64) (le-trans (ltb-false m (2 ^ 64) h) (le-value m (digits s)))))
 
 pub read-on : (n at : ℕ) (s : List ℕ) → n < 2 ^ 64 → readOn n at (digits s) ≡ onward n at s (digitOn n s)
 unfolding digits digitOn
 read-on n at [] h = read-none n at h
-read-on n at (b ∷ s) h = go (isDigit b)
-  where
-    go : (t : Bool) → readOn n at (cond t (b ∷ digits s) []) ≡ onward n at (b ∷ s) (cond t (grown (n * 10 + (b - 48))) Digit.Stop)
-    go true = read-digit n at b s
-    go false = read-none n at h
+read-on n at (b ∷ s) h = cases (isDigit b) (λ q. rw q (read-digit n at b s)) (λ q. rw q (read-none n at h))
 
 -- what a digit leaves: one byte less
 pub left-behind : (s : List ℕ) (at left : ℕ) → at < length s → 0 < left → drop 1 (take left (drop at s)) ≡ take (left - 1) (drop (at + 1) s)
@@ -188,14 +154,7 @@ scan-none s e = rw (digits-stop s e)
 
 scan-cons : (d : ℕ) (ds : List ℕ) → scanned (numeralOf (d ∷ ds)) (length (d ∷ ds)) ≡ readOn 0 0 (d ∷ ds)
 unfolding numeralOf readOn
-scan-cons d ds = go (ltb (value 0 (d ∷ ds)) (2 ^ 64))
-  where
-    v : ℕ
-    v = value 0 (d ∷ ds)
-
-    go : (t : Bool) → scanned (cond t (Numeral.Value v) Numeral.TooLarge) (length (d ∷ ds)) ≡ cond t (Value v (0 + length (d ∷ ds))) TooLarge
-    go true = rw zero-add
-    go false = refl
+scan-cons d ds = cases (ltb (value 0 (d ∷ ds)) (2 ^ 64)) (λ q. rw (q, zero-add)) (λ q. rw q)
 
 scan-some : (s : List ℕ) → digitFirst s ≡ true → scanOf s ≡ readOn 0 0 (digits s)
 scan-some s e = rw (digits-more s 0 e) (scan-cons (getD s 0 0) (digits (drop 1 s)))
@@ -220,11 +179,14 @@ short-none s e = rw (digits-stop s e)
 -- the number that one digit makes
 digit-made : (d at : ℕ) (t : Bool) (n i : ℕ) → isDigit d ≡ true → d ≤ 57 → scanBy t n i ≡ readOn 0 at (digits (d ∷ [])) → n ≡ d - 48
 unfolding digits readOn value
-digit-made d at t n i e h q = go t (q ∙ rw (e, lt-ltb (0 * 10 + (d - 48)) (2 ^ 64) (omega arith)))
-  where
-    go : (t : Bool) → scanBy t n i ≡ Value (0 * 10 + (d - 48)) (at + 1) → n ≡ d - 48
-    go true r = let v : n ≡ 0 * 10 + (d - 48) = cc in omega arith
-    go false r = let z : _≡_ {A = ℕ} 0 1 = cc in absurd (omega arith)
+digit-made d at true n i e h q =
+    let r = rw (e, lt-ltb (0 * 10 + (d - 48)) (2 ^ 64) (omega arith)) at q in
+    let v : n ≡ 0 * 10 + (d - 48) = cc in
+    omega arith
+digit-made d at false n i e h q =
+    let r = rw (e, lt-ltb (0 * 10 + (d - 48)) (2 ^ 64) (omega arith)) at q in
+    let z : _≡_ {A = ℕ} 0 1 = cc in
+    absurd (omega arith)
 
 module _ (s : List ℕ) (at : ℕ) (e : digitFirst (drop at s) ≡ true) where
   pub short-long : digitFirst (drop (at + 1) s) ≡ true → Short.Long ≡ shortOf (digits (drop at s))
@@ -239,12 +201,12 @@ module _ (s : List ℕ) (at : ℕ) (e : digitFirst (drop at s) ≡ true) where
     made : n ≡ getD s at 0 - 48
     made =
         let one = left-at s at 1 (first-inside s at e) (omega arith) in
-        digit-made (getD s at 0) at t n i (first-digit s at e) (first-57 s at e) (rw one at q)
+        digit-made (getD s at 0) at t n i (first-digit s at e) (first-byte s at e .1) (rw one at q)
 
-    pub short-zero : n ≡ 0 → Short.Long ≡ shortOf (digits (drop at s))
-    short-zero z = let d : getD s at 0 ≡ 48 = omega (arith, first-48 s at e, made) in rw (alone, d)
-
-    pub short-one : (n ≡ 0 → ⊥) → Short.Digit n ≡ shortOf (digits (drop at s))
-    short-one z =
-        let d : eqb (getD s at 0) 48 ≡ false = ne-eqb (getD s at 0) 48 (λ (p : getD s at 0 ≡ 48). z (omega (arith, made))) in
-        rw (alone, d, ← made)
+    pub short-alone : cond (eqb n 0) Short.Long (Short.Digit n) ≡ shortOf (digits (drop at s))
+    short-alone =
+        let m = made in
+        let b = first-byte s at e in
+        cases (eqb (getD s at 0) 48)
+        (λ q. let z : n ≡ 0 = omega (arith, eqb-true (getD s at 0) 48 q) in rw (alone, q, z))
+        (λ q. rw (alone, q, ← made, ne-eqb n 0 (λ z. eqb-false (getD s at 0) 48 q (omega arith))))

@@ -1,15 +1,15 @@
 -- By whether the lesser number is a power of two.
-use mathlib.Core.Path.{sym, _∙_}
-use Rattle.align.proofs.States.{alignment-power, alignment-other}
 use borrow.Author.Needs.{needs}
+use Rattle.definition.specs.States.{alignment}
 use Rattle.align.proofs.alignment.Statement.{statement}
 use Rattle.align.proofs.alignment.Tie as tie
 
-returns : tie.Need-returns
-returns c = sym (alignment-power _ _ _ (c .before .before .lesser .ensures) (sym (c .before .is-power .ensures) ∙ c .if1 .taken))
-
-returns-2 : tie.Need-returns-2
-returns-2 c = sym (alignment-other _ _ _ (c .before .before .lesser .ensures) (sym (c .before .is-power .ensures) ∙ c .if1 .left))
-
 pub alignment-spec : {M : Type 1} → statement M
-alignment-spec = tie.close (tie.spec (λ c κs. search needs) (λ c κs. search needs) returns returns-2)
+unfolding alignment
+alignment-spec =
+    tie.close
+    (tie.spec
+    (λ c κs. search needs)
+    (λ c κs. search needs)
+    (λ c. rw (← c .before .before .lesser .ensures, ← c .before .is-power .ensures, c .if1 .taken))
+    (λ c. rw (← c .before .before .lesser .ensures, ← c .before .is-power .ensures, c .if1 .left)))

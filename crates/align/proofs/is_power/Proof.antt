@@ -6,11 +6,10 @@ use borrow.Author.Needs.{needs}
 use Rattle.align.proofs.is_power.Statement.{statement}
 use Rattle.align.proofs.is_power.Tie as tie
 
-returns : tie.Need-returns
-returns c = power-mask (c .before .before .args .n) (c .before .wrapping-sub-u64 .result) (omega arith) (omega arith)
-
-returns-2 : tie.Need-returns-2
-returns-2 c = sym (power-none (c .before .before .args .n) (λ e. omega arith) (λ e. omega arith) (λ e. omega arith) (λ e. omega arith) (λ e. omega arith))
-
 pub is-power-spec : {M : Type 1} → statement M
-is-power-spec = tie.close (tie.spec (λ c κs. search needs) returns returns-2)
+is-power-spec =
+    tie.close
+    (tie.spec
+    (λ c κs. search needs)
+    (λ c. power-mask (c .before .before .args .n) (c .before .wrapping-sub-u64 .result) (omega arith) (omega arith))
+    (λ c. sym (power-none (c .before .before .args .n) (λ e. omega arith) (λ e. omega arith) (λ e. omega arith) (λ e. omega arith) (λ e. omega arith))))

@@ -4,11 +4,10 @@ use borrow.Author.Needs.{needs}
 use Rattle.align.proofs.is_sound.Statement.{statement}
 use Rattle.align.proofs.is_sound.Tie as tie
 
-returns : tie.Need-returns
-returns c = rw (sym (c .before .before .is-power .ensures) ∙ c .before .if1 .taken)
-
-returns-2 : tie.Need-returns-2
-returns-2 c = rw (sym (c .before .is-power .ensures) ∙ c .if1 .left)
-
 pub is-sound-spec : {M : Type 1} → statement M
-is-sound-spec = tie.close (tie.spec (λ c κs. search needs) returns returns-2)
+is-sound-spec =
+    tie.close
+    (tie.spec
+    (λ c κs. search needs)
+    (λ c. rw (sym (c .before .before .is-power .ensures) ∙ c .before .if1 .taken))
+    (λ c. rw (sym (c .before .is-power .ensures) ∙ c .if1 .left)))

@@ -21,8 +21,10 @@ text-by-one (Chars n) h = refl
 text-by-one ZeroEnded h = refl
 text-by-one (Counted n) h = refl
 
-returns-2 : tie.Need-returns-2
-returns-2 c = text-by-one (c .before .args .f) (c .match .keys2)
-
 pub natural-spec : {M : Type 1} → statement M
-natural-spec = tie.close (tie.spec (λ c. search needs) (λ c. search needs) returns-2)
+natural-spec =
+    tie.close
+    (tie.spec
+    (λ c. search needs)
+    (λ c. search needs)
+    (λ c. text-by-one (c .before .args .f) (c .match .keys2)))

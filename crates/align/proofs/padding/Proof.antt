@@ -1,37 +1,31 @@
 -- Of a power of two the fill is what the negated length has below it.
 use native.Mathlib.Omega.{arith}
+use native.Mathlib.Nat.{mod-one}
 use mathlib.Core.Path.{sym, ap, _∙_}
-use Rattle.definition.specs.Answers.{accepted}
-use Rattle.align.proofs.Powers.{power-least, power-fill}
-use Rattle.align.proofs.States.{padding-power, padding-one, padding-other}
 use borrow.Author.Needs.{needs}
+use Rattle.definition.specs.Answers.{accepted}
+use Rattle.definition.specs.States.{alignment, padding}
+use Rattle.align.proofs.Powers.{power-least, power-fill}
 use Rattle.align.proofs.padding.Statement.{statement}
 use Rattle.align.proofs.padding.Tie as tie
 
-returns : tie.Need-returns
-returns c = sym (padding-one _ _ _ (c .before .lesser .ensures) (c .if1 .taken))
-
-sub-t7 : tie.Need-sub-t7
-sub-t7 c = omega (arith, power-least (c .before .before .before .before .lesser .result) (sym (c .before .before .is-power .ensures) ∙ c .before .if2 .taken))
-
 returns-2 : tie.Need-returns-2
+unfolding alignment padding
 returns-2 c =
     let a = c .before .before .before .before in
-    let p = sym (c .before .before .is-power .ensures) ∙ c .before .if2 .taken in
-    ap accepted (power-fill (c .wrapping-sub-u64 .result) (a .before .args .s .length) (c .wrapping-sub-u64 .ensures) (a .lesser .result) p)
-    ∙ sym (padding-power _ _ _ (a .lesser .ensures) p)
-
-returns-3 : tie.Need-returns-3
-returns-3 c = sym (padding-other _ _ _ (c .before .before .before .lesser .ensures) (sym (c .before .is-power .ensures) ∙ c .if2 .left))
+    let p = c .before .before .is-power .ensures in
+    let w = c .wrapping-sub-u64 in
+    rw (← a .lesser .ensures, ← p, c .before .if2 .taken) (ap accepted (power-fill (w .result) (a .before .args .s .length) (w .ensures) (a .lesser .result) (sym p ∙ c .before .if2 .taken)))
 
 pub padding-spec : {M : Type 1} → statement M
+unfolding alignment padding
 padding-spec =
     tie.close
     (tie.spec
     (λ c κs. search needs)
-    returns
+    (λ c. rw (← c .before .lesser .ensures, c .if1 .taken) (ap accepted (sym (mod-one _))))
     (λ c κs. search needs)
     (λ c κs. search needs)
-    sub-t7
+    (λ c. omega (arith, power-least (c .before .before .before .before .lesser .result) (sym (c .before .before .is-power .ensures) ∙ c .before .if2 .taken)))
     returns-2
-    returns-3)
+    (λ c. rw (← c .before .before .before .lesser .ensures, ← c .before .is-power .ensures, c .if2 .left)))

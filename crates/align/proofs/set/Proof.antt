@@ -4,13 +4,13 @@ use borrow.Author.Needs.{needs}
 use Rattle.align.proofs.set.Statement.{statement}
 use Rattle.align.proofs.set.Tie as tie
 
-returns : tie.Need-returns
-returns c = c .state .ensures ∙ rw (c .before .before .x .given .1)
-
-returns-2 : tie.Need-returns-2
-returns-2 c = c .state2 .ensures ∙ rw (c .before .before .x2 .given .1)
-
 pub set-spec : {M : Type 1} → statement M
 set-spec =
     tie.close
-    (tie.spec (λ c. search needs) (λ c κs. search needs) (λ c. search needs) (λ c κs. search needs) returns returns-2)
+    (tie.spec
+    (λ c. search needs)
+    (λ c κs. search needs)
+    (λ c. search needs)
+    (λ c κs. search needs)
+    (λ c. c .state .ensures ∙ rw (c .before .before .x .given .1))
+    (λ c. c .state2 .ensures ∙ rw (c .before .before .x2 .given .1)))

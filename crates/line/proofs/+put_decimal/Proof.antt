@@ -6,65 +6,30 @@ use borrow.Fn.PlainCycle.{Measures, is, falls, and}
 use lib.ListN.{length-set}
 use Rattle.line.proofs.Buffers.{one-digit, digit-inside, last-digit}
 use Rattle.line.proofs.put_decimal.Reads as put-decimal
-use Rattle.line.proofs.put_decimal.Kinds as put-decimal-kinds
-use Rattle.line.proofs.+put_decimal.Lts-put_decimal as put-decimal-lts
+use Rattle.line.proofs.put_decimal.Kinds as kinds
+use Rattle.line.proofs.+put_decimal.Lts-put_decimal as lts
 use Rattle.line.proofs.digit.Reads as digit-reads
 use Rattle.line.proofs.+put_decimal.{statement}
 use Rattle.line.proofs.+put_decimal.Tie.{close}
 
-abbrev μ-put-decimal : Measures 1 put-decimal-kinds.ps ℕ
+abbrev μ-put-decimal : Measures 1 kinds.ps ℕ
 μ-put-decimal κs a = a .1 .1 .0
 
-abbrev put-decimal-at : ℕ → In 1 put-decimal-kinds.ps
+abbrev put-decimal-at : ℕ → In 1 kinds.ps
 put-decimal-at t =
-    and 1 put-decimal-kinds.ps (is 1 put-decimal-kinds.ps μ-put-decimal t) put-decimal.Pre
+    and 1 kinds.ps (is 1 kinds.ps μ-put-decimal t) put-decimal.Pre
 
-abbrev put-decimal-below : ℕ → In 1 put-decimal-kinds.ps
-put-decimal-below t =
-    and 1 put-decimal-kinds.ps (falls 1 put-decimal-kinds.ps _<_ μ-put-decimal t) put-decimal.Pre
+abbrev claims : ℕ → lts.Claims
+claims t = (digit-reads.Asked, digit-reads.Learnt, and 1 kinds.ps (falls 1 kinds.ps _<_ μ-put-decimal t) put-decimal.Pre, put-decimal.Post)
 
-abbrev claims : ℕ → put-decimal-lts.Claims
-claims t = (digit-reads.Asked, digit-reads.Learnt, put-decimal-below t, put-decimal.Post)
-
-put-decimal-digit-requires : (t : ℕ) → put-decimal-lts.Need-digit-requires (claims t) (put-decimal-at t) put-decimal.Post
-put-decimal-digit-requires t c κs = c .if1 .taken
-
-put-decimal-slice-write-out : (t : ℕ) → put-decimal-lts.Need-slice-write-out (claims t) (put-decimal-at t) put-decimal.Post
-put-decimal-slice-write-out t c = omega arith
-
-put-decimal-add-result : (t : ℕ) → put-decimal-lts.Need-add-result (claims t) (put-decimal-at t) put-decimal.Post
-put-decimal-add-result t c = omega arith
-
-put-decimal-same-length : (t : ℕ) → put-decimal-lts.Need-same-length (claims t) (put-decimal-at t) put-decimal.Post
-put-decimal-same-length t c = simp length-set
-
-put-decimal-returns : (t : ℕ) → put-decimal-lts.Need-returns (claims t) (put-decimal-at t) put-decimal.Post
-put-decimal-returns t c = let a = c .before .before .before .args in one-digit (a .out .now) (a .at) (a .n) _ (c .before .if1 .taken) (c .digit .ensures) (omega arith)
-
-put-decimal-put-decimal-requires : (t : ℕ) → put-decimal-lts.Need-put-decimal-requires (claims t) (put-decimal-at t) put-decimal.Post
-put-decimal-put-decimal-requires t c κs = (omega arith, c .before .before .before .pre .1)
-
-put-decimal-digit-requires-2 : (t : ℕ) → put-decimal-lts.Need-digit-requires-2 (claims t) (put-decimal-at t) put-decimal.Post
-put-decimal-digit-requires-2 t c κs = omega arith
-
-put-decimal-slice-write-out-2 : (t : ℕ) → put-decimal-lts.Need-slice-write-out-2 (claims t) (put-decimal-at t) put-decimal.Post
+put-decimal-slice-write-out-2 : (t : ℕ) → lts.Need-slice-write-out-2 (claims t) (put-decimal-at t) put-decimal.Post
 put-decimal-slice-write-out-2 t c =
     let s = c .before .before .before .before .before .before .before in
     let a = s .args in
     let r = c .before .before .before .put-decimal in
     digit-inside (a .out .now) (a .at) (a .n) (r .result) (r .last .0) (s .fits .n .fits) (s .pre .1) (r .ensures .0) (r .kept .0)
 
-put-decimal-add-result-2 : (t : ℕ) → put-decimal-lts.Need-add-result-2 (claims t) (put-decimal-at t) put-decimal.Post
-put-decimal-add-result-2 t c =
-    let s = c .before .before .before .before .before .before .before in
-    let a = s .args in
-    let r = c .before .before .before .put-decimal in
-    omega (arith, digit-inside (a .out .now) (a .at) (a .n) (r .result) (r .last .0) (s .fits .n .fits) (s .pre .1) (r .ensures .0) (r .kept .0))
-
-put-decimal-same-length-2 : (t : ℕ) → put-decimal-lts.Need-same-length-2 (claims t) (put-decimal-at t) put-decimal.Post
-put-decimal-same-length-2 t c = simp length-set (c .before .before .before .put-decimal .kept .0)
-
-put-decimal-returns-2 : (t : ℕ) → put-decimal-lts.Need-returns-2 (claims t) (put-decimal-at t) put-decimal.Post
+put-decimal-returns-2 : (t : ℕ) → lts.Need-returns-2 (claims t) (put-decimal-at t) put-decimal.Post
 put-decimal-returns-2 t c =
     let s = c .before .before .before .before .before .before .before in
     let a = s .args in
@@ -74,17 +39,17 @@ put-decimal-returns-2 t c =
     last-digit (a .out .now) (a .at) (a .n) (r .result) (r .last .0) (s .fits .n .fits) (s .pre .1) (r .ensures .0) (d .result) large (r .ensures .1) (d .ensures)
 
 pub +put-decimal-spec : {M : Type 1} → statement M
-+put-decimal-spec = close μ-put-decimal λ t. put-decimal-lts.spec (claims t)
++put-decimal-spec = close μ-put-decimal λ t. lts.spec (claims t)
     (put-decimal-at t)
     put-decimal.Post
-    (put-decimal-digit-requires t)
-    (put-decimal-slice-write-out t)
-    (put-decimal-add-result t)
-    (put-decimal-same-length t)
-    (put-decimal-returns t)
-    (put-decimal-put-decimal-requires t)
-    (put-decimal-digit-requires-2 t)
+    (λ c κs. c .if1 .taken)
+    (λ c. omega arith)
+    (λ c. omega arith)
+    (λ c. simp length-set)
+    (λ c. let a = c .before .before .before .args in one-digit (a .out .now) (a .at) (a .n) _ (c .before .if1 .taken) (c .digit .ensures) (omega arith))
+    (λ c κs. (omega arith, c .before .before .before .pre .1))
+    (λ c κs. omega arith)
     (put-decimal-slice-write-out-2 t)
-    (put-decimal-add-result-2 t)
-    (put-decimal-same-length-2 t)
+    (λ c. omega (arith, put-decimal-slice-write-out-2 t c))
+    (λ c. simp length-set (c .before .before .before .put-decimal .kept .0))
     (put-decimal-returns-2 t)

@@ -1,24 +1,20 @@
 -- The label tells the two answers apart.
-use mathlib.Core.Path.{sym, ap, _∙_}
+use mathlib.Core.Path.{_≡_, sym, ap, _∙_}
 use borrow.Author.Needs.{needs}
 use denote.Ref.{now}
-use Rattle.definition.specs.Program.{printed}
-use Rattle.line.proofs.Inputs.{printed-refused, printed-size, held}
+use Rattle.definition.specs.Bytes.{bytes}
+use Rattle.line.specs.Lines.{numberLine}
+use Rattle.definition.specs.Program.{line, printed}
+use Rattle.line.proofs.Inputs.{printed-is}
 use Rattle.measure.specs.Measured.{measuredOf}
+use Rattle.measure.specs.declared.size.Measured.{Measured}
+use Rattle.measure.specs.declared.size.Measured.the-variants.{Refused, Size}
 use Rattle.line.proofs.answer_line.Statement.{statement}
 use Rattle.line.proofs.answer_line.Tie as tie
 
-returns : tie.Need-returns
-returns c =
-    let a = c .before .before .before .before .before .before .before .before .before .args in
-    let told = sym (c .before .before .before .before .before .before .before .answer .ensures) ∙ ap measuredOf (c .before .before .before .before .before .k .given .1) in
-    held (printed (now (a .input))) _ (printed-refused (now (a .input)) _ (c .before .wide .result) told (c .before .wide .ensures)) (c .put-line .result) (c .put-line .last .0) (now (a .out)) (c .put-line .ensures)
-
-returns-2 : tie.Need-returns-2
-returns-2 c =
-    let a = c .before .before .before .before .before .before .before .before .args in
-    let told = sym (c .before .before .before .before .before .before .answer .ensures) ∙ ap measuredOf (c .before .before .before .before .n .given .1) in
-    held (printed (now (a .input))) _ (printed-size (now (a .input)) _ told) (c .put-line2 .result) (c .put-line2 .last .0) (now (a .out)) (c .put-line2 .ensures)
+-- the line that is printed, by the answer x
+told : (c : tie.After-answer) (x : Measured) → c .answer .result ≡ x → printed (now (c .before .before .args .input)) ≡ line (measuredOf x)
+told c x q = printed-is (now (c .before .before .args .input)) (measuredOf x) (sym (c .answer .ensures) ∙ ap measuredOf q)
 
 pub answer-line-spec : {M : Type 1} → statement M
 answer-line-spec =
@@ -32,5 +28,5 @@ answer-line-spec =
     (λ c. search needs)
     (λ c. search needs)
     (λ c κs. search needs)
-    returns
-    returns-2)
+    (λ c. let b = c .before .before .before .before .before in rw (told (b .before .before) (Refused _) (b .k .given .1) ∙ ap (numberLine (bytes "refused ")) (sym (c .before .wide .ensures))) (c .put-line .ensures))
+    (λ c. let b = c .before .before .before .before in rw (told (b .before .before) (Size _) (b .n .given .1)) (c .put-line2 .ensures)))

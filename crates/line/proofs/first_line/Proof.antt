@@ -3,7 +3,6 @@ use Prim.Native.Nat.{_-_, _≤_}
 use mathlib.Core.List.{_++_}
 use mathlib.Core.Path.{_≡_, refl}
 use native.Mathlib.Omega.{arith}
-use denote.Ref.{now}
 use lib.ListN.{length, take, drop}
 use Rattle.definition.specs.Program.{firstLine}
 use Rattle.line.proofs.Inputs.{line-stop, line-end, line-on}
@@ -16,28 +15,16 @@ Inv-loop input i₀ i = (i ≤ length input) × (take i input ++ firstLine (drop
 abbrev μ-loop : tie.MeasureT-loop
 μ-loop input i₀ i = length input - i
 
-loop-holds : tie.Need-loop-holds Inv-loop μ-loop
-loop-holds c = (omega arith, refl)
-
-returns : tie.Need-returns Inv-loop μ-loop
-returns c = (c .before .before .before .loop .inv .0, line-stop (now (c .before .before .before .before .args .input)) (c .before .before .before .loop .i) (c .before .before .before .loop .inv .1) (c .before .before .loop-test .taken) (c .if1 .taken))
-
-loop-again : tie.Need-loop-again Inv-loop μ-loop
-loop-again c = (omega arith, line-on (now (c .before .before .before .before .args .input)) (c .before .before .before .loop .i) (c .before .before .before .loop .inv .1) (c .before .before .loop-test .taken) (c .if1 .left))
-
-returns-2 : tie.Need-returns-2 Inv-loop μ-loop
-returns-2 c = (c .before .loop .inv .0, line-end (now (c .before .before .args .input)) (c .before .loop .i) (c .before .loop .inv .1) (c .loop-test .left))
-
 pub first-line-spec : {M : Type 1} → statement M
 first-line-spec =
     tie.close
     (tie.spec
     Inv-loop
     μ-loop
-    loop-holds
+    (λ c. (omega arith, refl))
     (λ c. omega arith)
-    returns
+    (λ c. let l = c .before .before .before .loop in (l .inv .0, line-stop _ _ (l .inv .1) (c .before .before .loop-test .taken) (c .if1 .taken)))
     (λ c. omega arith)
     (λ c. omega arith)
-    loop-again
-    returns-2)
+    (λ c. (omega arith, line-on _ _ (c .before .before .before .loop .inv .1) (c .before .before .loop-test .taken) (c .if1 .left)))
+    (λ c. (c .before .loop .inv .0, line-end _ _ (c .before .loop .inv .1) (c .loop-test .left))))

@@ -7,7 +7,7 @@ use borrow.Author.Needs.{needs}
 use denote.Ref.{now}
 use lib.ListN.{length}
 use Rattle.definition.specs.Program.{decimal}
-use Rattle.line.proofs.Buffers.{length-20, line-length, line-held}
+use Rattle.line.proofs.Buffers.{length-20, line-put}
 use Rattle.line.proofs.put_line.Statement.{statement}
 use Rattle.line.proofs.put_line.Tie as tie
 
@@ -30,12 +30,16 @@ returns c =
     let x = c .before .before .before .before .before .before .before .before .before .before .before .put in
     let y = c .before .before .before .before .before .before .before .put-decimal in
     let z = c .before .before .put2 in
-    let fits : length l + (length d + 1) ≤ length o = omega (arith, length-20 (s .args .n), s .pre) in (
-      line-length l d (10 ∷ []) (x .result) (y .result) (z .result) (x .ensures .0) (y .ensures .0) (z .ensures .0),
-      line-held o l d (10 ∷ []) (x .result) (y .result) (x .ensures .0) (y .ensures .0) fits (x .last .0) (y .last .0) (z .last .0) (x .ensures .1) (y .ensures .1) (z .ensures .1),
-    )
+    let fits : length l + (length d + 1) ≤ length o = omega (arith, length-20 (s .args .n), s .pre) in
+    line-put o l d (10 ∷ []) fits (x .result) (y .result) (z .result) (x .ensures .0) (y .ensures .0) (z .ensures .0) (x .last .0) (y .last .0) (z .last .0) (x .ensures .1) (y .ensures .1) (z .ensures .1)
 
 pub put-line-spec : {M : Type 1} → statement M
 put-line-spec =
     tie.close
-    (tie.spec (λ c κs. search needs) (λ c κs. search needs) (λ c. search needs) put-requires-2 same-length returns)
+    (tie.spec
+    (λ c κs. search needs)
+    (λ c κs. search needs)
+    (λ c. search needs)
+    put-requires-2
+    same-length
+    returns)

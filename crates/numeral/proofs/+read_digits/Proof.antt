@@ -13,32 +13,25 @@ use Rattle.numeral.specs.declared.Digit.{Digit}
 use Rattle.numeral.specs.declared.Digit.the-variants.{Stop, TooLarge, More}
 use Rattle.numeral.proofs.Digits.{read-on, onward, more-inside, left-behind}
 use Rattle.numeral.proofs.read_digits.Reads as read-digits
-use Rattle.numeral.proofs.read_digits.Kinds as read-digits-kinds
-use Rattle.numeral.proofs.+read_digits.Lts-read_digits as read-digits-lts
+use Rattle.numeral.proofs.read_digits.Kinds as kinds
+use Rattle.numeral.proofs.+read_digits.Lts-read_digits as lts
 use Rattle.numeral.proofs.digit_on.Reads as digit-on-reads
 use Rattle.numeral.proofs.+read_digits.{statement}
 use Rattle.numeral.proofs.+read_digits.Tie.{close}
 
 -- the bytes left
-abbrev μ-read-digits : Measures 4 read-digits-kinds.ps ℕ
+abbrev μ-read-digits : Measures 4 kinds.ps ℕ
 μ-read-digits κs a = a .1 .1 .1 .0
 
-abbrev read-digits-at : ℕ → In 4 read-digits-kinds.ps
+abbrev read-digits-at : ℕ → In 4 kinds.ps
 read-digits-at t =
-    and 4 read-digits-kinds.ps (is 4 read-digits-kinds.ps μ-read-digits t) read-digits.Pre
+    and 4 kinds.ps (is 4 kinds.ps μ-read-digits t) read-digits.Pre
 
-abbrev read-digits-below : ℕ → In 4 read-digits-kinds.ps
-read-digits-below t =
-    and 4 read-digits-kinds.ps (falls 4 read-digits-kinds.ps _<_ μ-read-digits t) read-digits.Pre
-
-abbrev claims : ℕ → read-digits-lts.Claims
-claims t = (digit-on-reads.Asked, digit-on-reads.Learnt, read-digits-below t, read-digits.Post)
-
-read-digits-digit-on-requires : (t : ℕ) → read-digits-lts.Need-digit-on-requires (claims t) (read-digits-at t) read-digits.Post
-read-digits-digit-on-requires t c κs = tt
+abbrev claims : ℕ → lts.Claims
+claims t = (digit-on-reads.Asked, digit-on-reads.Learnt, and 4 kinds.ps (falls 4 kinds.ps _<_ μ-read-digits t) read-digits.Pre, read-digits.Post)
 
 -- the digits of the bytes left, by the first of them
-decided : (t : ℕ) (c : read-digits-lts.After-digit-on (claims t) (read-digits-at t) read-digits.Post) (x : Digit) → c .digit-on .result ≡ x
+decided : (t : ℕ) (c : lts.After-digit-on (claims t) (read-digits-at t) read-digits.Post) (x : Digit) → c .digit-on .result ≡ x
     → let a = c .before .before .before .before .args in
     let s = take (a .left) (drop (now (a .at)) (now (now (a .text)))) in
     onward (now (a .n)) (now (a .at)) s x ≡ readOn (now (a .n)) (now (a .at)) (digits s)
@@ -49,41 +42,20 @@ decided t c x e =
     sym (next ∙ ap (onward (now (a .n)) (now (a .at)) s) (sym (c .digit-on .ensures) ∙ e))
 
 -- a digit stands inside the text, and in the bytes left
-inside : (t : ℕ) (c : read-digits-lts.After-m (claims t) (read-digits-at t) read-digits.Post)
+inside : (t : ℕ) (c : lts.After-m (claims t) (read-digits-at t) read-digits.Post)
     → let a = c .before .before .before .before .before .before .args in (now (a .at) < length (now (now (a .text)))) × (0 < a .left)
 inside t c =
     let a = c .before .before .before .before .before .before .args in
     more-inside (now (a .n)) (now (now (a .text))) (now (a .at)) (a .left) _ (sym (c .before .before .digit-on .ensures) ∙ c .m .given .1)
 
-read-digits-enum-told : (t : ℕ) → read-digits-lts.Need-enum-told (claims t) (read-digits-at t) read-digits.Post
-read-digits-enum-told t c = c .match .keys1
-
-read-digits-enum-told-2 : (t : ℕ) → read-digits-lts.Need-enum-told-2 (claims t) (read-digits-at t) read-digits.Post
-read-digits-enum-told-2 t c = c .match .keys2
-
-read-digits-enum-known-m : (t : ℕ) → read-digits-lts.Need-enum-known-m (claims t) (read-digits-at t) read-digits.Post
-read-digits-enum-known-m t c = c .match .keys3
-
-read-digits-add-at : (t : ℕ) → read-digits-lts.Need-add-at (claims t) (read-digits-at t) read-digits.Post
+read-digits-add-at : (t : ℕ) → lts.Need-add-at (claims t) (read-digits-at t) read-digits.Post
 read-digits-add-at t c =
     let b = c .before .before .before .before .before .before .before in
     let short = b .pre .1 in
     let h : now (b .args .at) + 1 < 2 ^ 64 = omega (arith, inside t (c .before) .0) in
     record { fits = h }
 
-read-digits-sub-read-digits : (t : ℕ) → read-digits-lts.Need-sub-read-digits (claims t) (read-digits-at t) read-digits.Post
-read-digits-sub-read-digits t c = inside t (c .before .before .before) .1
-
-read-digits-read-digits-requires : (t : ℕ) → read-digits-lts.Need-read-digits-requires (claims t) (read-digits-at t) read-digits.Post
-read-digits-read-digits-requires t c κs = (omega (arith, inside t (c .before .before .before) .1), c .before .before .before .before .before .before .before .before .before .pre .1)
-
-read-digits-returns : (t : ℕ) → read-digits-lts.Need-returns (claims t) (read-digits-at t) read-digits.Post
-read-digits-returns t c = decided t (c .before .before) Stop (c .enum-told .given .1)
-
-read-digits-returns-2 : (t : ℕ) → read-digits-lts.Need-returns-2 (claims t) (read-digits-at t) read-digits.Post
-read-digits-returns-2 t c = decided t (c .before .before) TooLarge (c .enum-told2 .given .1)
-
-read-digits-returns-3 : (t : ℕ) → read-digits-lts.Need-returns-3 (claims t) (read-digits-at t) read-digits.Post
+read-digits-returns-3 : (t : ℕ) → lts.Need-returns-3 (claims t) (read-digits-at t) read-digits.Post
 read-digits-returns-3 t c =
     let m = c .before .before .before .before .m .given in
     let a = c .before .before .before .before .before .before .before .before .before .before .args in
@@ -94,16 +66,16 @@ read-digits-returns-3 t c =
     ∙ decided t (c .before .before .before .before .before .before) (More (m .0 .0)) (m .1)
 
 pub +read-digits-spec : {M : Type 1} → statement M
-+read-digits-spec = close μ-read-digits λ t. read-digits-lts.spec (claims t)
++read-digits-spec = close μ-read-digits λ t. lts.spec (claims t)
     (read-digits-at t)
     read-digits.Post
-    (read-digits-digit-on-requires t)
-    (read-digits-enum-told t)
-    (read-digits-enum-told-2 t)
-    (read-digits-enum-known-m t)
+    (λ c κs. tt)
+    (λ c. c .match .keys1)
+    (λ c. c .match .keys2)
+    (λ c. c .match .keys3)
     (read-digits-add-at t)
-    (read-digits-sub-read-digits t)
-    (read-digits-read-digits-requires t)
-    (read-digits-returns t)
-    (read-digits-returns-2 t)
+    (λ c. inside t (c .before .before .before) .1)
+    (λ c κs. (omega (arith, inside t (c .before .before .before) .1), c .before .before .before .before .before .before .before .before .before .pre .1))
+    (λ c. decided t (c .before .before) Stop (c .enum-told .given .1))
+    (λ c. decided t (c .before .before) TooLarge (c .enum-told2 .given .1))
     (read-digits-returns-3 t)

@@ -9,12 +9,6 @@ use Rattle.numeral.proofs.Digits.{digits-length, scanOf, scan-none, sca
 use Rattle.numeral.proofs.read.Statement.{statement}
 use Rattle.numeral.proofs.read.Tie as tie
 
-returns : tie.Need-returns
-returns c = sym (scan-none (now (c .before .before .before .args .t1)) (sym (c .before .digit-at .ensures) ∙ not-true _ (c .if1 .taken)))
-
-sub-left : tie.Need-sub-left
-sub-left c = omega (arith, c .skip-zeros .ensures .1, digits-length (now (c .before .before .before .before .args .t1)))
-
 -- what is read past the zeros is the numeral
 numeral : (c : tie.After-read-digits)
     → let r = c .read-digits in
@@ -26,20 +20,14 @@ numeral c =
     let digit = sym (b .before .before .digit-at .ensures) ∙ not-false _ (b .before .if1 .left) in
     c .read-digits .ensures ∙ scan-rest s (b .skip-zeros .result) digit (b .skip-zeros .ensures .0) (b .skip-zeros .ensures .1)
 
-returns-2 : tie.Need-returns-2
-returns-2 c = rw (c .if2 .taken) at (numeral (c .before))
-
-returns-3 : tie.Need-returns-3
-returns-3 c = rw (c .if2 .left) at (numeral (c .before))
-
 pub read-spec : {M : Type 1} → statement M
 read-spec =
     tie.close
     (tie.spec
     (λ c κs. search needs)
-    returns
+    (λ c. sym (scan-none _ (sym (c .before .digit-at .ensures) ∙ not-true _ (c .if1 .taken))))
     (λ c κs. search needs)
-    sub-left
+    (λ c. omega (arith, c .skip-zeros .ensures .1, digits-length (now (c .before .before .before .before .args .t1))))
     (λ c κs. search needs)
-    returns-2
-    returns-3)
+    (λ c. rw (c .if2 .taken) at (numeral (c .before)))
+    (λ c. rw (c .if2 .left) at (numeral (c .before))))

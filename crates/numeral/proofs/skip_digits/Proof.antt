@@ -1,15 +1,13 @@
 -- The invariant: the digits from i on end where those from the first place end. The measure is what is left of the text.
-use Prim.Native.Nat.{ℕ, _+_, _-_}
-use mathlib.Core.Path.{_≡_, refl, sym, ap, _∙_}
-use mathlib.Core.Bool.{true, false}
-use mathlib.Core.List.{List}
-use native.Mathlib.Nat.{add-zero}
+use Prim.Native.Nat.{_+_, _-_}
+use mathlib.Core.Path.{_≡_, refl, sym, _∙_}
+use mathlib.Core.Bool.{true}
 use native.Mathlib.Omega.{arith}
 use borrow.Author.Needs.{needs}
 use lib.ListN.{length, drop}
 use Rattle.definition.specs.Items.{digits}
 use Rattle.numeral.specs.Numerals.{digitFirst}
-use Rattle.numeral.proofs.Digits.{digit-length, first-inside, digits-stop}
+use Rattle.numeral.proofs.Digits.{digit-length, digit-none, first-inside}
 use Rattle.numeral.proofs.skip_digits.Statement.{statement}
 use Rattle.numeral.proofs.skip_digits.Tie as tie
 
@@ -23,23 +21,15 @@ abbrev μ-loop : tie.MeasureT-loop
 digit : (c : tie.Then1 Inv-loop μ-loop) → digitFirst (drop (c .before .before .loop .i) (c .before .before .before .before .args .text .now)) ≡ true
 digit c = sym (c .before .digit-at .ensures) ∙ c .if1 .taken
 
-add-i : tie.Need-add-i Inv-loop μ-loop
-add-i c = omega (arith, first-inside (c .before .before .before .before .args .text .now) (c .before .before .loop .i) (digit c))
-
-loop-less : tie.Need-loop-less Inv-loop μ-loop
-loop-less c = omega (arith, first-inside (c .before .before .before .before .args .text .now) (c .before .before .loop .i) (digit c))
-
-loop-again : tie.Need-loop-again Inv-loop μ-loop
-loop-again c = digit-length (c .before .before .before .before .args .text .now) (c .before .before .loop .i) (digit c) ∙ c .before .before .loop .inv
-
-returns : tie.Need-returns Inv-loop μ-loop
-returns c =
-    let s = c .before .before .before .before .args .text .now in
-    let i = c .before .before .loop .i in
-    let e : digitFirst (drop i s) ≡ false = sym (c .before .digit-at .ensures) ∙ c .if1 .left in
-    sym (add-zero i) ∙ ap (λ (l : List ℕ). i + length l) (sym (digits-stop (drop i s) e)) ∙ c .before .before .loop .inv
-
 pub skip-digits-spec : {M : Type 1} → statement M
 skip-digits-spec =
     tie.close
-    (tie.spec Inv-loop μ-loop (λ c. refl) (λ c κs. search needs) add-i loop-less loop-again returns)
+    (tie.spec
+    Inv-loop
+    μ-loop
+    (λ c. refl)
+    (λ c κs. search needs)
+    (λ c. omega (arith, first-inside (c .before .before .before .before .args .text .now) (c .before .before .loop .i) (digit c)))
+    (λ c. omega (arith, first-inside (c .before .before .before .before .args .text .now) (c .before .before .loop .i) (digit c)))
+    (λ c. digit-length _ _ (digit c) ∙ c .before .before .loop .inv)
+    (λ c. digit-none _ _ (sym (c .before .digit-at .ensures) ∙ c .if1 .left) ∙ c .before .before .loop .inv))

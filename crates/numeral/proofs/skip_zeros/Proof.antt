@@ -5,7 +5,7 @@ use native.Mathlib.Nat.{zero-add}
 use native.Mathlib.Omega.{arith}
 use lib.ListN.{length, drop}
 use Rattle.definition.specs.Items.{digits, value}
-use Rattle.numeral.proofs.Digits.{zero-value, zero-length}
+use Rattle.numeral.proofs.Digits.{zero-passed}
 use Rattle.numeral.proofs.skip_zeros.Statement.{statement}
 use Rattle.numeral.proofs.skip_zeros.Tie as tie
 
@@ -15,21 +15,13 @@ Inv-loop text i₀ i = (value 0 (digits (drop i text)) ≡ value 0 (digits text)
 abbrev μ-loop : tie.MeasureT-loop
 μ-loop text i₀ i = length text - i
 
-loop-holds : tie.Need-loop-holds Inv-loop μ-loop
-loop-holds c = (refl, zero-add _)
-
-returns : tie.Need-returns Inv-loop μ-loop
-returns c = c .before .before .before .loop .inv
-
 loop-again : tie.Need-loop-again Inv-loop μ-loop
 loop-again c =
     let s = c .before .before .before .before .args .text .now in
     let l = c .before .before .before .loop in
     let h : l .i < length s = omega arith in
-    (zero-value s (l .i) h (c .if1 .left) ∙ l .inv .0, zero-length s (l .i) h (c .if1 .left) ∙ l .inv .1)
-
-returns-2 : tie.Need-returns-2 Inv-loop μ-loop
-returns-2 c = c .before .loop .inv
+    let z = zero-passed s (l .i) h (c .if1 .left) in
+    (z .0 ∙ l .inv .0, z .1 ∙ l .inv .1)
 
 pub skip-zeros-spec : {M : Type 1} → statement M
 skip-zeros-spec =
@@ -37,10 +29,10 @@ skip-zeros-spec =
     (tie.spec
     Inv-loop
     μ-loop
-    loop-holds
+    (λ c. (refl, zero-add _))
     (λ c. omega arith)
-    returns
+    (λ c. c .before .before .before .loop .inv)
     (λ c. omega arith)
     (λ c. omega arith)
     loop-again
-    returns-2)
+    (λ c. c .before .loop .inv))

@@ -1,126 +1,82 @@
 -- Behind X an option with a numeral is asked for its own operand, with one byte less to look at.
-use Prim.Native.Nat.{ℕ, _<_}
+use Prim.Native.Nat.{ℕ, _≤_, _<_}
 use mathlib.Core.Path.{_≡_, ap, _∙_}
 use native.Mathlib.Nat.{le-refl}
 use native.Mathlib.Omega.{arith}
 use borrow.Fn.Kinds.{In}
 use borrow.Fn.PlainCycle.{Measures, is, falls, and}
 use lib.ListN.{length, drop, length-drop}
-use Rattle.format.specs.Operands.{operandOf, operandAt, oneMore}
+use Rattle.format.specs.Operands.{operandOf, operandAt, oneMore, behindOf}
 use Rattle.format.specs.Packed.{entryAt, tableAt}
+use Rattle.format.specs.declared.operand.Behind.{Behind}
 use Rattle.format.specs.declared.operand.Behind.the-variants as Behind
 use Rattle.format.proofs.Operands.{operand-none, behind-is, room}
 use Rattle.numeral.proofs.Digits.{part-rest}
 use Rattle.format.proofs.operand.operand_of.Reads as operand-of
-use Rattle.format.proofs.operand.operand_of.Kinds as operand-of-kinds
-use Rattle.format.proofs.operand.+operand_of.Lts-operand_of as operand-of-lts
+use Rattle.format.proofs.operand.operand_of.Kinds as kinds
+use Rattle.format.proofs.operand.+operand_of.Lts-operand_of as lts
 use Rattle.format.proofs.operand.behind_x.Reads as behind-x-reads
 use Rattle.format.proofs.operand.by_numeral.Reads as by-numeral-reads
 use Rattle.format.proofs.operand.one_more.Reads as one-more-reads
 use Rattle.format.proofs.operand.+operand_of.{statement}
 use Rattle.format.proofs.operand.+operand_of.Tie.{close}
 
-abbrev μ-operand-of : Measures 2 operand-of-kinds.ps ℕ
+abbrev μ-operand-of : Measures 2 kinds.ps ℕ
 μ-operand-of κs a = length (a .1 .0 .now)
 
-abbrev operand-of-at : ℕ → In 2 operand-of-kinds.ps
+abbrev operand-of-at : ℕ → In 2 kinds.ps
 operand-of-at t =
-    and 2 operand-of-kinds.ps (is 2 operand-of-kinds.ps μ-operand-of t) operand-of.Pre
+    and 2 kinds.ps (is 2 kinds.ps μ-operand-of t) operand-of.Pre
 
-abbrev operand-of-below : ℕ → In 2 operand-of-kinds.ps
-operand-of-below t =
-    and 2 operand-of-kinds.ps (falls 2 operand-of-kinds.ps _<_ μ-operand-of t) operand-of.Pre
+abbrev claims : ℕ → lts.Claims
+claims t = (by-numeral-reads.Asked, by-numeral-reads.Learnt, behind-x-reads.Asked, behind-x-reads.Learnt, and 2 kinds.ps (falls 2 kinds.ps _<_ μ-operand-of t) operand-of.Pre, operand-of.Post, one-more-reads.Asked, one-more-reads.Learnt)
 
-abbrev claims : ℕ → operand-of-lts.Claims
-claims t = (by-numeral-reads.Asked, by-numeral-reads.Learnt, behind-x-reads.Asked, behind-x-reads.Learnt, operand-of-below t, operand-of.Post, one-more-reads.Asked, one-more-reads.Learnt)
+module _ (t : ℕ) where
+  -- what is said of what follows X is its operand
+  behind : (c : lts.After-behind-x (claims t) (operand-of-at t) operand-of.Post) (y : Behind) → c .behind-x .result ≡ y
+      → let a = c .before .before .before .before .args in behindOf (tableAt (a .table .now)) y (a .rest .now) ≡ operandAt (tableAt (a .table .now)) (entryAt (a .e)) (a .rest .now)
+  behind c y q =
+      let a = c .before .before .before .before .args in
+      behind-is (tableAt (a .table .now)) (a .e) (c .before .before .if1 .left) (c .before .if2 .left) (a .rest .now) (c .behind-x .result) y q (c .behind-x .ensures .0)
 
-operand-of-by-numeral-requires : (t : ℕ) → operand-of-lts.Need-by-numeral-requires (claims t) (operand-of-at t) operand-of.Post
-operand-of-by-numeral-requires t c κs = (c .before .before .pre .1 .1, c .if1 .taken)
+  -- an option with a numeral stands there
+  inside : (c : lts.After-f (claims t) (operand-of-at t) operand-of.Post) → (192 ≤ c .f .given .0 .0) × (0 < length (c .before .before .before .before .before .before .args .rest .now))
+  inside c = rw (c .f .given .1) at (c .before .before .behind-x .ensures .1)
 
-operand-of-returns : (t : ℕ) → operand-of-lts.Need-returns (claims t) (operand-of-at t) operand-of.Post
-operand-of-returns t c = c .by-numeral .ensures (tableAt (c .before .before .before .args .table .now))
+  operand-of-requires : lts.Need-operand-of-requires (claims t) (operand-of-at t) operand-of.Post
+  operand-of-requires c κs =
+      let b = c .before .before .before .before .before .before .before .before in
+      let h = inside (c .before .before) in
+      (rw (part-rest 1 (b .args .rest .now), length-drop) (omega arith), (b .pre .1 .0, h .0))
 
-operand-of-returns-2 : (t : ℕ) → operand-of-lts.Need-returns-2 (claims t) (operand-of-at t) operand-of.Post
-operand-of-returns-2 t c =
-    let a = c .before .before .before .args in
-    operand-none (tableAt (a .table .now)) (a .e) (c .if2 .taken) (a .rest .now)
+  -- its own operand
+  own : (c : lts.After-operand-of (claims t) (operand-of-at t) operand-of.Post) → let a = c .before .before .before .before .before .before .before .before .before .args in
+      operandOf (c .operand-of .result) ≡ operandAt (tableAt (a .table .now)) (entryAt (c .before .before .before .f .given .0 .0)) (drop 1 (a .rest .now))
+  own c =
+      let a = c .before .before .before .before .before .before .before .before .before .args in
+      c .operand-of .ensures ∙ ap (operandAt (tableAt (a .table .now)) (entryAt (c .before .before .before .f .given .0 .0))) (part-rest 1 (a .rest .now))
 
-operand-of-behind-x-requires : (t : ℕ) → operand-of-lts.Need-behind-x-requires (claims t) (operand-of-at t) operand-of.Post
-operand-of-behind-x-requires t c κs = c .before .before .before .pre .1 .0
-
-operand-of-enum-known-k : (t : ℕ) → operand-of-lts.Need-enum-known-k (claims t) (operand-of-at t) operand-of.Post
-operand-of-enum-known-k t c = c .match .keys1
-
-operand-of-enum-known-n : (t : ℕ) → operand-of-lts.Need-enum-known-n (claims t) (operand-of-at t) operand-of.Post
-operand-of-enum-known-n t c = c .match .keys2
-
-operand-of-enum-known-f : (t : ℕ) → operand-of-lts.Need-enum-known-f (claims t) (operand-of-at t) operand-of.Post
-operand-of-enum-known-f t c = c .match .keys3
-
-operand-of-sub-operand-of : (t : ℕ) → operand-of-lts.Need-sub-operand-of (claims t) (operand-of-at t) operand-of.Post
-operand-of-sub-operand-of t c = (rw (c .before .f .given .1) at (c .before .before .before .behind-x .ensures .1)) .1
-
-operand-of-part-operand-of-start : (t : ℕ) → operand-of-lts.Need-part-operand-of-start (claims t) (operand-of-at t) operand-of.Post
-operand-of-part-operand-of-start t c = (rw (c .before .f .given .1) at (c .before .before .before .behind-x .ensures .1)) .1
-
-operand-of-part-operand-of-end : (t : ℕ) → operand-of-lts.Need-part-operand-of-end (claims t) (operand-of-at t) operand-of.Post
-operand-of-part-operand-of-end t c = le-refl _
-
-operand-of-operand-of-requires : (t : ℕ) → operand-of-lts.Need-operand-of-requires (claims t) (operand-of-at t) operand-of.Post
-operand-of-operand-of-requires t c κs =
-    let s = c .before .before .before .before .before .before .before .before .args .rest .now in
-    let h = (rw (c .before .before .f .given .1) at (c .before .before .before .before .behind-x .ensures .1)) in
-    (rw (part-rest 1 s, length-drop) (omega arith), (c .before .before .before .before .before .before .before .before .pre .1 .0, h .0))
-
--- what the step behind X says of the rest
-stepped : (t : ℕ) (c : operand-of-lts.After-operand-of (claims t) (operand-of-at t) operand-of.Post) → operandOf (c .operand-of .result)
-    ≡ operandAt (tableAt (c .before .before .before .before .before .before .before .before .before .args .table .now)) (entryAt (c .before .before .before .f .given .0 .0)) (drop 1 (c .before .before .before .before .before .before .before .before .before .args .rest .now))
-stepped t c =
-    let a = c .before .before .before .before .before .before .before .before .before .args in
-    c .operand-of .ensures ∙ ap (operandAt (tableAt (a .table .now)) (entryAt (c .before .before .before .f .given .0 .0))) (part-rest 1 (a .rest .now))
-
-operand-of-one-more-requires : (t : ℕ) → operand-of-lts.Need-one-more-requires (claims t) (operand-of-at t) operand-of.Post
-operand-of-one-more-requires t c κs =
-    let a = c .before .before .before .before .before .before .before .before .before .args in
-    room (tableAt (a .table .now)) (c .operand-of .result) (entryAt (c .before .before .before .f .given .0 .0)) (drop 1 (a .rest .now)) (stepped t c) (rw length-drop (omega arith))
-
-operand-of-returns-3 : (t : ℕ) → operand-of-lts.Need-returns-3 (claims t) (operand-of-at t) operand-of.Post
-operand-of-returns-3 t c =
-    let b = c .before .before .before in
-    let a = b .before .before .before .before .args in
-    behind-is (tableAt (a .table .now)) (a .e) (b .before .before .if1 .left) (b .before .if2 .left) (a .rest .now) (b .behind-x .result) (Behind.Refused (c .before .k .given .0 .0)) (c .before .k .given .1) (b .behind-x .ensures .0)
-
-operand-of-returns-4 : (t : ℕ) → operand-of-lts.Need-returns-4 (claims t) (operand-of-at t) operand-of.Post
-operand-of-returns-4 t c =
-    let b = c .before .before .before in
-    let a = b .before .before .before .before .args in
-    let n = c .before .n .given in
-    behind-is (tableAt (a .table .now)) (a .e) (b .before .before .if1 .left) (b .before .if2 .left) (a .rest .now) (b .behind-x .result) (Behind.By (n .0 .0) (n .0 .1 .0)) (n .1) (b .behind-x .ensures .0)
-
-operand-of-returns-5 : (t : ℕ) → operand-of-lts.Need-returns-5 (claims t) (operand-of-at t) operand-of.Post
-operand-of-returns-5 t c =
-    let f = c .before .before .before .before .f .given in
-    let b = c .before .before .before .before .before .before in
-    let a = b .before .before .before .before .args in
-    c .one-more .ensures ∙ ap oneMore (stepped t (c .before))
-    ∙ behind-is (tableAt (a .table .now)) (a .e) (b .before .before .if1 .left) (b .before .if2 .left) (a .rest .now) (b .behind-x .result) (Behind.Numeral (f .0 .0)) (f .1) (b .behind-x .ensures .0)
+  one-more-requires : lts.Need-one-more-requires (claims t) (operand-of-at t) operand-of.Post
+  one-more-requires c κs =
+      let a = c .before .before .before .before .before .before .before .before .before .args in
+      room (tableAt (a .table .now)) (c .operand-of .result) (entryAt (c .before .before .before .f .given .0 .0)) (drop 1 (a .rest .now)) (own c) (rw length-drop (omega arith))
 
 pub +operand-of-spec : {M : Type 1} → statement M
-+operand-of-spec = close μ-operand-of λ t. operand-of-lts.spec (claims t)
++operand-of-spec = close μ-operand-of λ t. lts.spec (claims t)
     (operand-of-at t)
     operand-of.Post
-    (operand-of-by-numeral-requires t)
-    (operand-of-returns t)
-    (operand-of-returns-2 t)
-    (operand-of-behind-x-requires t)
-    (operand-of-enum-known-k t)
-    (operand-of-enum-known-n t)
-    (operand-of-enum-known-f t)
-    (operand-of-sub-operand-of t)
-    (operand-of-part-operand-of-start t)
-    (operand-of-part-operand-of-end t)
-    (operand-of-operand-of-requires t)
-    (operand-of-one-more-requires t)
-    (operand-of-returns-3 t)
-    (operand-of-returns-4 t)
-    (operand-of-returns-5 t)
+    (λ c κs. (c .before .before .pre .1 .1, c .if1 .taken))
+    (λ c. c .by-numeral .ensures (tableAt (c .before .before .before .args .table .now)))
+    (λ c. operand-none _ _ (c .if2 .taken) _)
+    (λ c κs. c .before .before .before .pre .1 .0)
+    (λ c. c .match .keys1)
+    (λ c. c .match .keys2)
+    (λ c. c .match .keys3)
+    (λ c. inside t (c .before) .1)
+    (λ c. inside t (c .before) .1)
+    (λ c. le-refl _)
+    (operand-of-requires t)
+    (one-more-requires t)
+    (λ c. behind t (c .before .before .before) (Behind.Refused _) (c .before .k .given .1))
+    (λ c. behind t (c .before .before .before) (Behind.By _ _) (c .before .n .given .1))
+    (λ c. c .one-more .ensures ∙ ap oneMore (own t (c .before)) ∙ behind t (c .before .before .before .before .before .before) (Behind.Numeral _) (c .before .before .before .before .f .given .1))

@@ -1,25 +1,21 @@
 -- The scan of the digits that follow is the numeral of the definition.
-use mathlib.Core.Path.{sym, _∙_}
+use mathlib.Core.Path.{_≡_, sym, ap, _∙_}
 use borrow.Author.Needs.{needs}
 use denote.Ref.{now}
-use Rattle.format.proofs.Numerals.{missing-is, large-is, value-is}
+use Rattle.definition.specs.Options.{Table}
+use Rattle.numeral.specs.declared.Scan.{Scan}
+use Rattle.numeral.specs.declared.Scan.the-variants.{Missing, TooLarge, Value}
+use Rattle.format.specs.Operands.{operandAt}
+use Rattle.format.specs.Packed.{entryAt}
+use Rattle.format.proofs.Numerals.{byScan, by-scan}
 use Rattle.format.proofs.operand.by_numeral.Statement.{statement}
 use Rattle.format.proofs.operand.by_numeral.Tie as tie
 
-returns : tie.Need-returns
-returns c =
-    let b = c .before .before .before .before .before in
-    λ t. missing-is t (b .args .e) (b .pre .0) (b .pre .1) (now (b .args .rest)) (sym (c .before .before .before .read .ensures) ∙ c .before .enum-told .given .1) _ (c .without-numeral .ensures)
-
-returns-2 : tie.Need-returns-2
-returns-2 c =
-    let b = c .before .before .before .before in
-    λ t. large-is t (b .args .e) (b .pre .0) (b .pre .1) (now (b .args .rest)) (sym (c .before .before .read .ensures) ∙ c .enum-told2 .given .1)
-
-returns-3 : tie.Need-returns-3
-returns-3 c =
-    let b = c .before .before .before .before .before .before in
-    λ t. value-is t (b .args .e) (b .pre .0) (b .pre .1) (now (b .args .rest)) _ _ (sym (c .before .before .before .before .read .ensures) ∙ c .before .before .n .given .1) _ (c .with-numeral .ensures)
+-- the operand by the scan x
+scan : (c : tie.After-read) (x : Scan) → c .read .result ≡ x → (t : Table) → let a = c .before .before .args in byScan (entryAt (a .e) .class) (entryAt (a .e) .size) x ≡ operandAt t (entryAt (a .e)) (now (a .rest))
+scan c x q t =
+    let b = c .before .before in
+    ap (byScan (entryAt (b .args .e) .class) (entryAt (b .args .e) .size)) (sym q ∙ c .read .ensures) ∙ by-scan t (b .args .e) (b .pre .0) (b .pre .1) (now (b .args .rest))
 
 pub by-numeral-spec : {M : Type 1} → statement M
 by-numeral-spec =
@@ -31,6 +27,6 @@ by-numeral-spec =
     (λ c. search needs)
     (λ c. search needs)
     (λ c κs. search needs)
-    returns
-    returns-2
-    returns-3)
+    (λ c t. c .without-numeral .ensures ∙ scan (c .before .before .before) Missing (c .before .enum-told .given .1) t)
+    (λ c. scan (c .before .before) TooLarge (c .enum-told2 .given .1))
+    (λ c t. let n = c .before .before .n .given in c .with-numeral .ensures ∙ scan (c .before .before .before .before) (Value (n .0 .0) (n .0 .1 .0)) (n .1) t))

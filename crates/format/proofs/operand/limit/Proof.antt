@@ -5,17 +5,12 @@ use borrow.Author.Tests.{le-leb, lt-leb}
 use Rattle.format.proofs.operand.limit.Statement.{statement}
 use Rattle.format.proofs.operand.limit.Tie as tie
 
-returns : tie.Need-returns
-returns c = rw (lt-leb 1 _ (c .if1 .taken))
-
-returns-2 : tie.Need-returns-2
-returns-2 c = rw (le-leb 1 _ (c .before .if1 .left), lt-leb _ 16 (c .if2 .taken))
-
-returns-3 : tie.Need-returns-3
-returns-3 c = rw (le-leb 1 _ (c .before .before .before .if1 .left), le-leb _ 16 (c .before .before .if2 .left), sym (c .before .is-power .ensures) ∙ c .if3 .taken)
-
-returns-4 : tie.Need-returns-4
-returns-4 c = rw (le-leb 1 _ (c .before .before .before .if1 .left), le-leb _ 16 (c .before .before .if2 .left), sym (c .before .is-power .ensures) ∙ c .if3 .left)
-
 pub limit-spec : {M : Type 1} → statement M
-limit-spec = tie.close (tie.spec returns returns-2 (λ c κs. search needs) returns-3 returns-4)
+limit-spec =
+    tie.close
+    (tie.spec
+    (λ c. rw (lt-leb 1 _ (c .if1 .taken)))
+    (λ c. rw (le-leb 1 _ (c .before .if1 .left), lt-leb _ 16 (c .if2 .taken)))
+    (λ c κs. search needs)
+    (λ c. rw (le-leb 1 _ (c .before .before .before .if1 .left), le-leb _ 16 (c .before .before .if2 .left), sym (c .before .is-power .ensures) ∙ c .if3 .taken))
+    (λ c. rw (le-leb 1 _ (c .before .before .before .if1 .left), le-leb _ 16 (c .before .before .if2 .left), sym (c .before .is-power .ensures) ∙ c .if3 .left)))

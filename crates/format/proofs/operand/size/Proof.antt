@@ -3,14 +3,10 @@ use borrow.Author.Tests.{le-leb, lt-leb}
 use Rattle.format.proofs.operand.size.Statement.{statement}
 use Rattle.format.proofs.operand.size.Tie as tie
 
-returns : tie.Need-returns
-returns c = rw (lt-leb 1 _ (c .if1 .taken))
-
-returns-2 : tie.Need-returns-2
-returns-2 c = rw (le-leb 1 _ (c .before .if1 .left), lt-leb _ 16 (c .if2 .taken))
-
-returns-3 : tie.Need-returns-3
-returns-3 c = rw (le-leb 1 _ (c .before .if1 .left), le-leb _ 16 (c .if2 .left))
-
 pub size-spec : {M : Type 1} → statement M
-size-spec = tie.close (tie.spec returns returns-2 returns-3)
+size-spec =
+    tie.close
+    (tie.spec
+    (λ c. rw (lt-leb 1 _ (c .if1 .taken)))
+    (λ c. rw (le-leb 1 _ (c .before .if1 .left), lt-leb _ 16 (c .if2 .taken)))
+    (λ c. rw (le-leb 1 _ (c .before .if1 .left), le-leb _ 16 (c .if2 .left))))

@@ -4,14 +4,12 @@ use Rattle.format.proofs.Entries.{sized-by, chars-by, limit-by}
 use Rattle.format.proofs.operand.with_numeral.Statement.{statement}
 use Rattle.format.proofs.operand.with_numeral.Tie as tie
 
-returns : tie.Need-returns
-returns c = rw (sized-by _ (c .before .before .pre .0) (c .before .if1 .taken) _) (c .size .ensures)
-
-returns-2 : tie.Need-returns-2
-returns-2 c = rw (chars-by _ (c .before .if1 .left) (c .if2 .taken) _)
-
-returns-3 : tie.Need-returns-3
-returns-3 c = rw (limit-by _ (c .before .if2 .left) (c .before .before .before .pre .1) _) (c .limit .ensures)
-
 pub with-numeral-spec : {M : Type 1} → statement M
-with-numeral-spec = tie.close (tie.spec (λ c κs. search needs) returns returns-2 (λ c κs. search needs) returns-3)
+with-numeral-spec =
+    tie.close
+    (tie.spec
+    (λ c κs. search needs)
+    (λ c. rw (sized-by _ (c .before .before .pre .0) (c .before .if1 .taken) _) (c .size .ensures))
+    (λ c. rw (chars-by _ (c .before .if1 .left) (c .if2 .taken) _))
+    (λ c κs. search needs)
+    (λ c. rw (limit-by _ (c .before .if2 .left) (c .before .before .before .pre .1) _) (c .limit .ensures)))

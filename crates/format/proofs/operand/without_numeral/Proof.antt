@@ -4,14 +4,11 @@ use Rattle.format.proofs.Entries.{sized-by, chars-by, limit-by}
 use Rattle.format.proofs.operand.without_numeral.Statement.{statement}
 use Rattle.format.proofs.operand.without_numeral.Tie as tie
 
-returns : tie.Need-returns
-returns c = rw (sized-by _ (c .before .before .pre .0) (c .before .if1 .taken) _, c .size-of .ensures)
-
-returns-2 : tie.Need-returns-2
-returns-2 c = rw (chars-by _ (c .before .if1 .left) (c .if2 .taken) _)
-
-returns-3 : tie.Need-returns-3
-returns-3 c = rw (limit-by _ (c .if2 .left) (c .before .before .pre .1) _)
-
 pub without-numeral-spec : {M : Type 1} → statement M
-without-numeral-spec = tie.close (tie.spec (λ c κs. search needs) returns returns-2 returns-3)
+without-numeral-spec =
+    tie.close
+    (tie.spec
+    (λ c κs. search needs)
+    (λ c. rw (sized-by _ (c .before .before .pre .0) (c .before .if1 .taken) _, c .size-of .ensures))
+    (λ c. rw (chars-by _ (c .before .if1 .left) (c .if2 .taken) _))
+    (λ c. rw (limit-by _ (c .if2 .left) (c .before .before .pre .1) _)))

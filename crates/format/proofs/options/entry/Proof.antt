@@ -5,8 +5,5 @@ use borrow.Author.Tests.{lt-ltb}
 use Rattle.format.proofs.options.entry.Statement.{statement}
 use Rattle.format.proofs.options.entry.Tie as tie
 
-returns : tie.Need-returns
-returns c = rw (lt-ltb (c .before .args .b) 256 (omega arith))
-
 pub entry-spec : {M : Type 1} → statement M
-entry-spec = tie.close (tie.spec (λ c. search needs) returns)
+entry-spec = tie.close (tie.spec (λ c. search needs) (λ c. rw (lt-ltb (c .before .args .b) 256 (omega arith))))

@@ -4,9 +4,6 @@ use Rattle.format.proofs.Table.{packed-options}
 use Rattle.format.proofs.options.table.Statement.{statement}
 use Rattle.format.proofs.options.table.Tie as tie
 
-returns : tie.Need-returns
-unfolding packed
-returns c = packed-options
-
 pub table-spec : {M : Type 1} → statement M
-table-spec = tie.close (tie.spec returns)
+unfolding packed
+table-spec = tie.close (tie.spec (λ c. packed-options))

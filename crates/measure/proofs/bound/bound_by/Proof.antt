@@ -1,88 +1,48 @@
--- The invariant: the walk from the start state has come to the cursor's place and to the state. The measure is what is left of the format.
-use Prim.Native.Nat.{_-_}
-use mathlib.Core.Path.{_≡_, sym, ap, _∙_, subst}
-use mathlib.Core.Option.{some}
-use native.Mathlib.Omega.{arith}
-use lib.ListN.{length, drop}
-use Rattle.definition.specs.Answers.{accepted}
-use Rattle.definition.specs.Bound.{boundOp}
+-- The invariant: the run from the start state has come to the cursor's place and to the state. The measure is what is left of the format.
+use Prim.Native.Nat.{ℕ, _-_}
+use mathlib.Core.Path.{ap}
+use lib.ListN.{length}
+use Rattle.definition.specs.Answers.{Checked, accepted, _>>=_}
+use Rattle.definition.specs.declared.State.{State}
+use Rattle.definition.specs.Bound.{boundOp, bounding, bound}
+use Rattle.definition.specs.Ops.{ops}
 use Rattle.definition.specs.States.{start}
-use Rattle.definition.specs.declared.Op.{Op}
-use Rattle.align.specs.Amounts.{stateOf}
 use Rattle.format.specs.Packed.{tableAt}
-use Rattle.format.specs.Steps.{nextAt, nextOf}
-use Rattle.measure.proofs.Runs.{walks, Ran, run-none, run-end, run-refusal, run-refused, run-on}
-use Rattle.format.proofs.Walking.{ahead}
-use Rattle.measure.proofs.Sizes.{bound-is}
+use Rattle.measure.proofs.Runs.{Ran, run-none, run-end, run-refusal, run-less, run-refused, run-on}
 use Rattle.measure.proofs.bound.bound_by.Statement.{statement}
 use Rattle.measure.proofs.bound.bound_by.Tie as tie
 
+-- the length of the state that a run comes to
+abbrev lengthOf : Checked State → Checked ℕ
+lengthOf w = w >>= λ s. accepted (s .length)
+
 abbrev Inv-loop : tie.InvT-loop
-Inv-loop table format data-length c₀ s₀ c s = Ran (boundOp data-length) (tableAt table) (walks (boundOp data-length) (tableAt table) start format) format (c .at) s
+Inv-loop table format data-length c₀ s₀ c s = Ran (boundOp data-length) (tableAt table) (bounding data-length start (ops (tableAt table) format)) format (c .at) s
 
 abbrev μ-loop : tie.MeasureT-loop
 μ-loop table format data-length c₀ s₀ c s = length format - c .at
 
--- the item that the cursor read
-item : (c : tie.After-op Inv-loop μ-loop) → let l = c .before .before .before .before .before in
-    nextAt (tableAt (l .before .before .before .before .args .table .now)) (l .loop .c .at) (drop (l .loop .c .at) (l .before .before .before .before .args .format .now)) ≡ accepted (some (c .op .result, c .before .before .i .given .0 .1 .0 .at))
-item c =
-    sym (c .before .before .before .before .next .ensures) ∙ ap nextOf (c .before .before .i .given .1)
-    ∙ ap (λ (o : Op). accepted (some (o, c .before .before .i .given .0 .1 .0 .at))) (sym (c .op .ensures))
-
-loop-holds : tie.Need-loop-holds Inv-loop μ-loop
-loop-holds c =
-    let a = c .before .before .before .args in
-    subst (Ran (boundOp (a .data-length)) (tableAt (a .table .now)) _ (a .format .now) (c .before .new .result .at)) (sym (c .start .ensures)) (run-none (boundOp (a .data-length)) (tableAt (a .table .now)) start (a .format .now) _ (c .before .new .ensures))
-
-next-requires : tie.Need-next-requires Inv-loop μ-loop
-next-requires c κs = c .before .before .before .before .pre
-
-enum-told : tie.Need-enum-told Inv-loop μ-loop
-enum-told c = c .match .keys1
-
-returns : tie.Need-returns Inv-loop μ-loop
-returns c =
-    let l = c .before .before .before in
-    bound-is _ _ _ (run-end (boundOp (l .before .before .before .before .args .data-length)) (l .loop .inv) (sym (c .before .before .next .ensures) ∙ ap nextOf (c .enum-told .given .1)))
-
-enum-known-k : tie.Need-enum-known-k Inv-loop μ-loop
-enum-known-k c = c .match .keys2
-
-returns-2 : tie.Need-returns-2 Inv-loop μ-loop
-returns-2 c =
-    let l = c .before .before .before .before in
-    bound-is _ _ _ (run-refusal (boundOp (l .before .before .before .before .args .data-length)) (l .loop .inv) (sym (c .before .before .before .next .ensures) ∙ ap nextOf (c .before .k .given .1)))
-
-enum-known-i : tie.Need-enum-known-i Inv-loop μ-loop
-enum-known-i c = c .match .keys3
-
-enum-known-k-2 : tie.Need-enum-known-k-2 Inv-loop μ-loop
-enum-known-k-2 c = c .match2 .keys1
-
 returns-3 : tie.Need-returns-3 Inv-loop μ-loop
+unfolding bound
 returns-3 c =
     let o = c .before .before .before .before in
-    let l = o .before .before .before .before .before in
-    bound-is _ _ _ (run-refused (boundOp (l .before .before .before .before .args .data-length)) (l .loop .inv) (item o) (sym (c .before .before .before .bound-op .ensures) ∙ ap stateOf (c .before .k2 .given .1)))
-
-enum-known-t : tie.Need-enum-known-t Inv-loop μ-loop
-enum-known-t c = c .match2 .keys2
+    let n = o .before .before .before .before in
+    ap lengthOf (run-refused (n .before .loop .inv) (n .next .ensures) (o .before .before .i .given .1) (o .op .ensures) (c .before .before .before .bound-op .ensures) (c .before .k2 .given .1))
 
 loop-less : tie.Need-loop-less Inv-loop μ-loop
 loop-less c =
     let o = c .before .before .before .before .before in
-    let l = o .before .before .before .before .before in
-    let h = ahead (tableAt (l .before .before .before .before .args .table .now)) (l .before .before .before .before .args .format .now) (l .loop .c .at) (item o) in
-    omega arith
+    let n = o .before .before .before .before in
+    run-less (n .before .loop .inv) (n .next .ensures) (o .before .before .i .given .1) (o .op .ensures)
 
 loop-again : tie.Need-loop-again Inv-loop μ-loop
 loop-again c =
     let o = c .before .before .before .before .before in
-    let l = o .before .before .before .before .before in
-    run-on (boundOp (l .before .before .before .before .args .data-length)) (l .loop .inv) (item o) (sym (c .before .before .before .before .bound-op .ensures) ∙ ap stateOf (c .before .before .t .given .1) ∙ ap accepted (sym (c .parts .ensures)))
+    let n = o .before .before .before .before in
+    run-on (n .before .loop .inv) (n .next .ensures) (o .before .before .i .given .1) (o .op .ensures) (c .before .before .before .before .bound-op .ensures) (c .before .before .t .given .1) (c .parts .ensures)
 
 pub bound-by-spec : {M : Type 1} → statement M
+unfolding bound
 bound-by-spec =
     tie.close
     (tie.spec
@@ -90,18 +50,18 @@ bound-by-spec =
     μ-loop
     (λ c κs. tt)
     (λ c κs. tt)
-    loop-holds
-    next-requires
-    enum-told
-    returns
-    enum-known-k
-    returns-2
-    enum-known-i
+    (λ c. run-none (c .before .new .ensures) (c .start .ensures))
+    (λ c κs. c .before .before .before .before .pre)
+    (λ c. c .match .keys1)
+    (λ c. ap lengthOf (run-end (c .before .before .before .loop .inv) (c .before .before .next .ensures) (c .enum-told .given .1)))
+    (λ c. c .match .keys2)
+    (λ c. ap lengthOf (run-refusal (c .before .before .before .before .loop .inv) (c .before .before .before .next .ensures) (c .before .k .given .1)))
+    (λ c. c .match .keys3)
     (λ c κs. tt)
     (λ c κs. tt)
-    enum-known-k-2
+    (λ c. c .match2 .keys1)
     returns-3
-    enum-known-t
+    (λ c. c .match2 .keys2)
     (λ c κs. tt)
     loop-less
     loop-again)

@@ -1,15 +1,14 @@
 -- The alignment decides.
-use mathlib.Core.Path.{sym, ap, _∙_}
 use borrow.Author.Needs.{needs}
-use Rattle.align.specs.Amounts.{amountOf}
 use Rattle.measure.proofs.bound.bound_pad.Statement.{statement}
 use Rattle.measure.proofs.bound.bound_pad.Tie as tie
 
-returns : tie.Need-returns
-returns c = rw (sym (c .before .before .before .alignment .ensures) ∙ ap amountOf (c .before .k .given .1))
-
-returns-2 : tie.Need-returns-2
-returns-2 c = rw (sym (c .before .before .alignment .ensures) ∙ ap amountOf (c .enum-told .given .1))
-
 pub bound-pad-spec : {M : Type 1} → statement M
-bound-pad-spec = tie.close (tie.spec (λ c κs. search needs) (λ c. search needs) (λ c. search needs) returns returns-2)
+bound-pad-spec =
+    tie.close
+    (tie.spec
+    (λ c κs. search needs)
+    (λ c. search needs)
+    (λ c. search needs)
+    (λ c. rw (← c .before .before .before .alignment .ensures, c .before .k .given .1))
+    (λ c. rw (← c .before .before .alignment .ensures, c .enum-told .given .1)))

@@ -1,23 +1,19 @@
 -- The data length is tested first.
+use Prim.Native.Nat.{_-_, _^_}
 use mathlib.Core.Path.{sym, _∙_, subst}
 use Rattle.definition.proofs.Ops.{Sizes, options-sizes}
 use borrow.Author.Needs.{needs}
-use denote.Ref.{now}
-use Rattle.measure.proofs.Sizes.{bound-21, bound-short}
+use Rattle.definition.specs.Calls.{listBound}
+use borrow.Author.Tests.{le-leb, lt-leb}
 use Rattle.measure.proofs.bound.list_bound.Statement.{statement}
 use Rattle.measure.proofs.bound.list_bound.Tie as tie
 
-returns : tie.Need-returns
-returns c = bound-21 (now (c .before .before .args .format)) (c .before .before .args .data-length) (c .if1 .taken)
-
-bound-by-requires : tie.Need-bound-by-requires
-bound-by-requires c κs = subst Sizes (sym (c .before .table .ensures)) options-sizes
-
-returns-2 : tie.Need-returns-2
-returns-2 c =
-    let i = c .before .before .before in
-    let a = i .before .before .args in
-    c .bound-by .ensures ∙ bound-short _ (c .before .before .table .ensures) (now (a .format)) (a .data-length) (i .if1 .left)
-
 pub list-bound-spec : {M : Type 1} → statement M
-list-bound-spec = tie.close (tie.spec returns (λ c κs. search needs) bound-by-requires returns-2)
+unfolding listBound
+list-bound-spec =
+    tie.close
+    (tie.spec
+    (λ c. rw (lt-leb _ (2 ^ 63 - 1) (c .if1 .taken)))
+    (λ c κs. search needs)
+    (λ c κs. subst Sizes (sym (c .before .table .ensures)) options-sizes)
+    (λ c. c .bound-by .ensures ∙ rw (le-leb _ (2 ^ 63 - 1) (c .before .before .before .if1 .left), c .before .before .table .ensures)))

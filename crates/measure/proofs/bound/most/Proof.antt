@@ -3,15 +3,6 @@ use borrow.Author.Needs.{needs}
 use Rattle.measure.proofs.bound.most.Statement.{statement}
 use Rattle.measure.proofs.bound.most.Tie as tie
 
-returns-2 : tie.Need-returns-2
-returns-2 c = rw (c .before .before .f .given .1) (c .text-field .ensures)
-
-returns-3 : tie.Need-returns-3
-returns-3 c = rw (c .before .enum-told2 .given .1) (c .text-field2 .ensures)
-
-returns-4 : tie.Need-returns-4
-returns-4 c = rw (c .before .enum-told3 .given .1) (c .text-field3 .ensures)
-
 pub most-spec : {M : Type 1} → statement M
 most-spec =
     tie.close
@@ -24,6 +15,6 @@ most-spec =
     (λ c. search needs)
     (λ c κs. search needs)
     (λ c. search needs)
-    returns-2
-    returns-3
-    returns-4)
+    (λ c. rw (c .before .before .f .given .1) (c .text-field .ensures))
+    (λ c. rw (c .before .enum-told2 .given .1) (c .text-field2 .ensures))
+    (λ c. rw (c .before .enum-told3 .given .1) (c .text-field3 .ensures)))

@@ -1,17 +1,7 @@
 -- The size, or 10; then the alignment and as many bytes.
-use mathlib.Core.Path.{sym, ap, _∙_}
-use Rattle.align.specs.Amounts.{amountOf}
 use borrow.Author.Needs.{needs}
 use Rattle.measure.proofs.size.measure_field.Statement.{statement}
 use Rattle.measure.proofs.size.measure_field.Tie as tie
-
-returns : tie.Need-returns
-returns c = rw (sym (c .before .before .before .size-of .ensures) ∙ ap amountOf (c .before .k .given .1))
-
-returns-2 : tie.Need-returns-2
-returns-2 c =
-    let x = c .before .before .before in
-    rw (sym (x .before .before .size-of .ensures) ∙ ap amountOf (x .n .given .1), ← c .before .natural .ensures) (c .measure-pad .ensures)
 
 pub measure-field-spec : {M : Type 1} → statement M
 measure-field-spec =
@@ -22,5 +12,5 @@ measure-field-spec =
     (λ c. search needs)
     (λ c κs. search needs)
     (λ c κs. search needs)
-    returns
-    returns-2)
+    (λ c. rw (← c .before .before .before .size-of .ensures, c .before .k .given .1))
+    (λ c. let n = c .before .before .before in rw (← n .before .before .size-of .ensures, n .n .given .1, ← c .before .natural .ensures) (c .measure-pad .ensures)))

@@ -1,83 +1,36 @@
--- The invariant: the walk from the first state has come to the cursor's place and to the state. The measure is what is left of the format.
+-- The invariant: the run from the first state has come to the cursor's place and to the state. The measure is what is left of the format.
 use Prim.Native.Nat.{_-_}
-use mathlib.Core.Path.{_≡_, sym, ap, _∙_}
-use mathlib.Core.Option.{some}
-use native.Mathlib.Omega.{arith}
-use lib.ListN.{length, drop}
-use Rattle.definition.specs.Answers.{accepted}
-use Rattle.definition.specs.Measuring.{measureOp}
-use Rattle.definition.specs.declared.Op.{Op}
-use Rattle.align.specs.Amounts.{stateOf}
+use mathlib.Core.Path.{refl}
+use lib.ListN.{length}
+use Rattle.definition.specs.Measuring.{measureOp, measureFrom}
 use Rattle.format.specs.Packed.{tableAt}
-use Rattle.format.specs.Steps.{nextAt, nextOf}
-use Rattle.measure.proofs.Runs.{walks, Ran, run-none, run-end, run-refusal, run-refused, run-on}
-use Rattle.format.proofs.Walking.{ahead}
-use Rattle.measure.proofs.Sizes.{measure-is}
+use Rattle.measure.proofs.Runs.{Ran, run-none, run-end, run-refusal, run-less, run-refused, run-on}
 use Rattle.measure.proofs.size.measure_from.Statement.{statement}
 use Rattle.measure.proofs.size.measure_from.Tie as tie
 
 abbrev Inv-loop : tie.InvT-loop
-Inv-loop table format c₀ s₀ c s = Ran measureOp (tableAt table) (walks measureOp (tableAt table) s₀ format) format (c .at) s
+Inv-loop table format c₀ s₀ c s = Ran measureOp (tableAt table) (measureFrom (tableAt table) s₀ format) format (c .at) s
 
 abbrev μ-loop : tie.MeasureT-loop
 μ-loop table format c₀ s₀ c s = length format - c .at
 
--- the item that the cursor read
-item : (c : tie.After-op Inv-loop μ-loop) → let l = c .before .before .before .before .before in
-    nextAt (tableAt (l .before .before .before .args .table .now)) (l .loop .c .at) (drop (l .loop .c .at) (l .before .before .before .args .format .now)) ≡ accepted (some (c .op .result, c .before .before .i .given .0 .1 .0 .at))
-item c =
-    sym (c .before .before .before .before .next .ensures) ∙ ap nextOf (c .before .before .i .given .1)
-    ∙ ap (λ (o : Op). accepted (some (o, c .before .before .i .given .0 .1 .0 .at))) (sym (c .op .ensures))
-
-loop-holds : tie.Need-loop-holds Inv-loop μ-loop
-loop-holds c = run-none measureOp _ _ _ _ (c .new .ensures)
-
-next-requires : tie.Need-next-requires Inv-loop μ-loop
-next-requires c κs = c .before .before .before .pre
-
-enum-told : tie.Need-enum-told Inv-loop μ-loop
-enum-told c = c .match .keys1
-
-returns : tie.Need-returns Inv-loop μ-loop
-returns c =
-    let l = c .before .before .before in
-    measure-is _ _ _ (run-end measureOp (l .loop .inv) (sym (c .before .before .next .ensures) ∙ ap nextOf (c .enum-told .given .1)))
-
-enum-known-k : tie.Need-enum-known-k Inv-loop μ-loop
-enum-known-k c = c .match .keys2
-
-returns-2 : tie.Need-returns-2 Inv-loop μ-loop
-returns-2 c =
-    let l = c .before .before .before .before in
-    measure-is _ _ _ (run-refusal measureOp (l .loop .inv) (sym (c .before .before .before .next .ensures) ∙ ap nextOf (c .before .k .given .1)))
-
-enum-known-i : tie.Need-enum-known-i Inv-loop μ-loop
-enum-known-i c = c .match .keys3
-
-enum-known-k-2 : tie.Need-enum-known-k-2 Inv-loop μ-loop
-enum-known-k-2 c = c .match2 .keys1
-
 returns-3 : tie.Need-returns-3 Inv-loop μ-loop
 returns-3 c =
     let o = c .before .before .before .before in
-    let l = o .before .before .before .before .before in
-    measure-is _ _ _ (run-refused measureOp (l .loop .inv) (item o) (sym (c .before .before .before .measure-op .ensures) ∙ ap stateOf (c .before .k2 .given .1)))
-
-enum-known-t : tie.Need-enum-known-t Inv-loop μ-loop
-enum-known-t c = c .match2 .keys2
+    let n = o .before .before .before .before in
+    run-refused (n .before .loop .inv) (n .next .ensures) (o .before .before .i .given .1) (o .op .ensures) (c .before .before .before .measure-op .ensures) (c .before .k2 .given .1)
 
 loop-less : tie.Need-loop-less Inv-loop μ-loop
 loop-less c =
     let o = c .before .before .before .before .before in
-    let l = o .before .before .before .before .before in
-    let h = ahead (tableAt (l .before .before .before .args .table .now)) (l .before .before .before .args .format .now) (l .loop .c .at) (item o) in
-    omega arith
+    let n = o .before .before .before .before in
+    run-less (n .before .loop .inv) (n .next .ensures) (o .before .before .i .given .1) (o .op .ensures)
 
 loop-again : tie.Need-loop-again Inv-loop μ-loop
 loop-again c =
     let o = c .before .before .before .before .before in
-    let l = o .before .before .before .before .before in
-    run-on measureOp (l .loop .inv) (item o) (sym (c .before .before .before .before .measure-op .ensures) ∙ ap stateOf (c .before .before .t .given .1) ∙ ap accepted (sym (c .parts .ensures)))
+    let n = o .before .before .before .before in
+    run-on (n .before .loop .inv) (n .next .ensures) (o .before .before .i .given .1) (o .op .ensures) (c .before .before .before .before .measure-op .ensures) (c .before .before .t .given .1) (c .parts .ensures)
 
 pub measure-from-spec : {M : Type 1} → statement M
 measure-from-spec =
@@ -86,18 +39,18 @@ measure-from-spec =
     Inv-loop
     μ-loop
     (λ c κs. tt)
-    loop-holds
-    next-requires
-    enum-told
-    returns
-    enum-known-k
-    returns-2
-    enum-known-i
+    (λ c. run-none (c .new .ensures) refl)
+    (λ c κs. c .before .before .before .pre)
+    (λ c. c .match .keys1)
+    (λ c. run-end (c .before .before .before .loop .inv) (c .before .before .next .ensures) (c .enum-told .given .1))
+    (λ c. c .match .keys2)
+    (λ c. run-refusal (c .before .before .before .before .loop .inv) (c .before .before .before .next .ensures) (c .before .k .given .1))
+    (λ c. c .match .keys3)
     (λ c κs. tt)
     (λ c κs. tt)
-    enum-known-k-2
+    (λ c. c .match2 .keys1)
     returns-3
-    enum-known-t
+    (λ c. c .match2 .keys2)
     (λ c κs. tt)
     loop-less
     loop-again)

@@ -6,23 +6,8 @@ use Rattle.definition.specs.Measuring.{measureOp}
 use Rattle.measure.proofs.size.measure_op.Statement.{statement}
 use Rattle.measure.proofs.size.measure_op.Tie as tie
 
-returns : tie.Need-returns
-unfolding measureOp
-returns c = rw (c .enum-told .given .1)
-
-returns-2 : tie.Need-returns-2
-unfolding measureOp
-returns-2 c = rw (c .before .before .op .given .1) (ap accepted (c .set .ensures))
-
-returns-3 : tie.Need-returns-3
-unfolding measureOp
-returns-3 c = rw (c .before .before .op2 .given .1) (c .measure-pad .ensures)
-
-returns-4 : tie.Need-returns-4
-unfolding measureOp
-returns-4 c = rw (c .before .before .op3 .given .1) (c .measure-field .ensures)
-
 pub measure-op-spec : {M : Type 1} → statement M
+unfolding measureOp
 measure-op-spec =
     tie.close
     (tie.spec
@@ -33,7 +18,7 @@ measure-op-spec =
     (λ c κs. search needs)
     (λ c. search needs)
     (λ c κs. search needs)
-    returns
-    returns-2
-    returns-3
-    returns-4)
+    (λ c. rw (c .enum-told .given .1))
+    (λ c. rw (c .before .before .op .given .1) (ap accepted (c .set .ensures)))
+    (λ c. rw (c .before .before .op2 .given .1) (c .measure-pad .ensures))
+    (λ c. rw (c .before .before .op3 .given .1) (c .measure-field .ensures)))

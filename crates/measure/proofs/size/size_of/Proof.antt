@@ -3,12 +3,6 @@ use borrow.Author.Needs.{needs}
 use Rattle.measure.proofs.size.size_of.Statement.{statement}
 use Rattle.measure.proofs.size.size_of.Tie as tie
 
-returns : tie.Need-returns
-returns c = rw (c .before .f .given .1)
-
-returns-2 : tie.Need-returns-2
-returns-2 c = rw (c .before .f2 .given .1)
-
 pub size-of-spec : {M : Type 1} → statement M
 size-of-spec =
     tie.close
@@ -17,7 +11,7 @@ size-of-spec =
     (λ c. search needs)
     (λ c. search needs)
     (λ c. search needs)
-    returns
-    returns-2
+    (λ c. rw (c .before .f .given .1))
+    (λ c. rw (c .before .f2 .given .1))
     (λ c. search needs)
     (λ c. search needs))
