@@ -44,12 +44,11 @@ returns-2 c =
     let s = c .before .before in
     rw (c .before .if1 .taken) (outside (negsuc (s .args .whole - 1)) (omega arith) ∙ ap (integerWhere true) (negated (s .args .whole) (s .pre)))
 
-returns-3 : tie.Need-returns-3
-returns-3 c = rw (c .before .if1 .left, toZ-pos w64 (c .if3 .taken)) (inside (pos (c .before .before .args .whole)) (c .if3 .taken))
-
-returns-4 : tie.Need-returns-4
-returns-4 c = rw (c .before .if1 .left) (outside (pos (c .before .before .args .whole)) (c .if3 .left))
-
 pub with-sign-spec : {M : Type 1} → statement M
 with-sign-spec =
-    tie.close (tie.spec (λ c. search needs) (λ c. search needs) sub-t7 returns returns-2 (λ c. search needs) returns-3 returns-4)
+    tie.close
+    (tie.spec (λ c. search needs) (λ c. search needs)
+    sub-t7 returns returns-2
+    (λ c. search needs)
+    (λ c. rw (c .before .if1 .left, toZ-pos w64 (c .if3 .taken)) (inside (pos (c .before .before .args .whole)) (c .if3 .taken)))
+    (λ c. rw (c .before .if1 .left) (outside (pos (c .before .before .args .whole)) (c .if3 .left))))
