@@ -8,12 +8,6 @@ use borrow.Author.Needs.{needs}
 use Rattle.fetch.proofs.after.Statement.{statement}
 use Rattle.fetch.proofs.after.Tie as tie
 
-further-requires : tie.Need-further-requires
-further-requires c κs = let s = c .before .before .before in subst (Countable (s .args .at)) (c .before .x2 .given .1) (s .pre)
-
-returns : tie.Need-returns
-returns c = ap (afterOf (c .before .before .before .args .at)) (sym (c .before .x .given .1))
-
 returns-2 : tie.Need-returns-2
 returns-2 c =
     let x = c .before .before in
@@ -21,4 +15,9 @@ returns-2 c =
     ∙ ap (afterOf (x .before .before .args .at)) (sym (x .x2 .given .1))
 
 pub after-spec : {M : Type 1} → statement M
-after-spec = tie.close (tie.spec (λ c. search needs) (λ c. search needs) further-requires returns returns-2)
+after-spec =
+    tie.close
+    (tie.spec (λ c. search needs) (λ c. search needs)
+    (λ c κs. let s = c .before .before .before in subst (Countable (s .args .at)) (c .before .x2 .given .1) (s .pre))
+    (λ c. ap (afterOf (c .before .before .before .args .at)) (sym (c .before .x .given .1)))
+    returns-2)

@@ -11,27 +11,14 @@ aligned : (c : tie.After-known-told2) → let s = c .before .before .before .bef
     Skips (s .args .«data» .now) (s .args .s) (s .args .size) 0 (To (c .before .t .given .0 .0))
 aligned c = let p = c .before .before .before in pad-told (p .before .natural .ensures) (c .before .t .given .1) (p .read-pad .ensures)
 
-number-requires : tie.Need-number-requires
-number-requires c κs = (aligned c .inside, c .before .before .before .before .before .before .pre .1)
-
-after-requires : tie.Need-after-requires
-after-requires c κs = countable (c .before .before .before .before .before .before .before .good .0 .0) (c .number .ensures)
-
 returns : tie.Need-returns
 returns c = let p = c .before .before .before in field-pad-refused (pad-told (p .before .natural .ensures) (c .before .k .given .1) (p .read-pad .ensures))
-
-returns-2 : tie.Need-returns-2
-returns-2 c = field-after (aligned (c .before .before)) (c .before .number .ensures) (c .after .ensures)
 
 pub read-number-spec : {M : Type 1} → statement M
 read-number-spec =
     tie.close
-    (tie.spec
-    (λ c κs. search needs)
-    (λ c κs. search needs)
-    (λ c. search needs)
-    (λ c. search needs)
-    number-requires
-    after-requires
+    (tie.spec (λ c κs. search needs) (λ c κs. search needs) (λ c. search needs) (λ c. search needs)
+    (λ c κs. (aligned c .inside, c .before .before .before .before .before .before .pre .1))
+    (λ c κs. countable (c .before .before .before .before .before .before .before .good .0 .0) (c .number .ensures))
     returns
-    returns-2)
+    (λ c. field-after (aligned (c .before .before)) (c .before .number .ensures) (c .after .ensures)))

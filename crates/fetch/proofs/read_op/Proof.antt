@@ -5,15 +5,6 @@ use borrow.Author.Needs.{needs}
 use Rattle.fetch.proofs.read_op.Statement.{statement}
 use Rattle.fetch.proofs.read_op.Tie as tie
 
-read-field-requires : tie.Need-read-field-requires
-read-field-requires c κs = let s = c .before .before .before .before in (s .pre .0, valid-as (c .before .op .given .1) (s .pre .1))
-
-returns : tie.Need-returns
-returns c = of-op (c .before .before .op .given .1) (c .read-field .ensures)
-
-returns-2 : tie.Need-returns-2
-returns-2 c = of-op (c .enum-told .given .1) (blank-op _ _ (c .before .before .before .pre .0))
-
 returns-3 : tie.Need-returns-3
 returns-3 c = let x = c .before .before in of-op (x .op2 .given .1) (set-op _ _ (x .before .before .before .pre .0) (x .op2 .given .0 .0) (c .set .ensures))
 
@@ -30,19 +21,10 @@ returns-5 c =
 pub read-op-spec : {M : Type 1} → statement M
 read-op-spec =
     tie.close
-    (tie.spec
-    (λ c. search needs)
-    read-field-requires
-    (λ c. search needs)
-    (λ c. search needs)
-    (λ c κs. search needs)
-    (λ c. search needs)
-    (λ c κs. search needs)
-    (λ c. search needs)
-    (λ c. search needs)
-    (λ c κs. search needs)
-    returns
-    returns-2
-    returns-3
-    returns-4
-    returns-5)
+    (tie.spec (λ c. search needs)
+    (λ c κs. let s = c .before .before .before .before in (s .pre .0, valid-as (c .before .op .given .1) (s .pre .1)))
+    (λ c. search needs) (λ c. search needs) (λ c κs. search needs) (λ c. search needs) (λ c κs. search needs)
+    (λ c. search needs) (λ c. search needs) (λ c κs. search needs)
+    (λ c. of-op (c .before .before .op .given .1) (c .read-field .ensures))
+    (λ c. of-op (c .enum-told .given .1) (blank-op _ _ (c .before .before .before .pre .0)))
+    returns-3 returns-4 returns-5)

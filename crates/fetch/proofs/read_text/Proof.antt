@@ -13,24 +13,15 @@ aligned : (c : tie.After-known-told2) → let s = c .before .before .before .bef
     Skips (s .args .«data» .now) (s .args .s) (natural (s .args .f)) 0 (To (c .before .t .given .0 .0))
 aligned c = let p = c .before .before .before in pad-told (p .before .natural .ensures) (c .before .t .given .1) (p .read-pad .ensures)
 
-text-requires : tie.Need-text-requires
-text-requires c κs = aligned (c .before .before .before) .inside
-
 after-requires : tie.Need-after-requires
 after-requires c κs =
     let s = c .before .before .before .before .before .before .before .before .before .before in
     countable (s .good .0 .0) (c .text .ensures (s .args .s .big))
 
-counted-requires : tie.Need-counted-requires
-counted-requires c κs = aligned (c .before .before .before) .inside
-
 after-requires-2 : tie.Need-after-requires-2
 after-requires-2 c κs =
     let s = c .before .before .before .before .before .before .before .before .before .before in
     countable (s .good .0 .0) (c .counted .ensures)
-
-zero-ended-requires : tie.Need-zero-ended-requires
-zero-ended-requires c κs = aligned (c .before) .inside
 
 after-requires-3 : tie.Need-after-requires-3
 after-requires-3 c κs =
@@ -61,20 +52,11 @@ returns-4 c =
 pub read-text-spec : {M : Type 1} → statement M
 read-text-spec =
     tie.close
-    (tie.spec
-    (λ c κs. search needs)
-    (λ c κs. search needs)
-    (λ c. search needs)
-    (λ c. search needs)
-    (λ c. search needs)
-    text-requires
+    (tie.spec (λ c κs. search needs) (λ c κs. search needs) (λ c. search needs) (λ c. search needs) (λ c. search needs)
+    (λ c κs. aligned (c .before .before .before) .inside)
     after-requires
     (λ c. search needs)
-    counted-requires
+    (λ c κs. aligned (c .before .before .before) .inside)
     after-requires-2
-    zero-ended-requires
-    after-requires-3
-    returns
-    returns-2
-    returns-3
-    returns-4)
+    (λ c κs. aligned (c .before) .inside)
+    after-requires-3 returns returns-2 returns-3 returns-4)

@@ -8,12 +8,6 @@ use borrow.Author.Needs.{needs}
 use Rattle.fetch.proofs.decode.counted.Statement.{statement}
 use Rattle.fetch.proofs.decode.counted.Tie as tie
 
-returns : tie.Need-returns
-returns c = counted-short _ _ _ _ (omega arith)
-
-returns-2 : tie.Need-returns-2
-returns-2 c = counted-wide _ _ _ _ (sym (ap unsignedOf (c .enum-told .given .1)) ∙ c .before .before .get-unsigned .ensures)
-
 add-t17 : tie.Need-add-t17
 add-t17 c =
     let t = c .before .before .before in
@@ -44,17 +38,9 @@ returns-4 c =
 pub counted-spec : {M : Type 1} → statement M
 counted-spec =
     tie.close
-    (tie.spec
-    (λ c κs. search needs)
-    returns
-    (λ c κs. search needs)
-    (λ c. search needs)
-    (λ c. search needs)
-    returns-2
-    (λ c κs. search needs)
-    (λ c κs. search needs)
-    (λ c. search needs)
-    (λ c. search needs)
-    add-t17
-    returns-3
-    returns-4)
+    (tie.spec (λ c κs. search needs)
+    (λ c. counted-short _ _ _ _ (omega arith))
+    (λ c κs. search needs) (λ c. search needs) (λ c. search needs)
+    (λ c. counted-wide _ _ _ _ (sym (ap unsignedOf (c .enum-told .given .1)) ∙ c .before .before .get-unsigned .ensures))
+    (λ c κs. search needs) (λ c κs. search needs) (λ c. search needs) (λ c. search needs)
+    add-t17 returns-3 returns-4)

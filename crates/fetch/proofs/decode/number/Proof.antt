@@ -5,9 +5,6 @@ use borrow.Author.Needs.{needs}
 use Rattle.fetch.proofs.decode.number.Statement.{statement}
 use Rattle.fetch.proofs.decode.number.Tie as tie
 
-returns : tie.Need-returns
-returns c = number-short _ _ _ _ _ (omega arith)
-
 single-requires : tie.Need-single-requires
 single-requires c κs =
     let s = c .before .before .before .before .before in
@@ -19,12 +16,6 @@ double-requires c κs =
     let s = c .before .before .before .before .before in
     let q = double-size (s .args .kind) (s .args .size) (s .pre .1) (c .enum-told2 .given .1) in
     omega arith
-
-returns-2 : tie.Need-returns-2
-returns-2 c = alike (signed-kind (c .before .before .before .before .before .args .kind) (c .before .match .keys1)) (c .signed .ensures)
-
-returns-3 : tie.Need-returns-3
-returns-3 c = alike (unsigned-kind (c .before .before .before .before .before .args .kind) (c .before .match .keys2)) (c .unsigned .ensures)
 
 returns-4 : tie.Need-returns-4
 returns-4 c =
@@ -41,16 +32,12 @@ returns-5 c =
 pub number-spec : {M : Type 1} → statement M
 number-spec =
     tie.close
-    (tie.spec
-    (λ c κs. search needs)
-    returns
-    (λ c κs. search needs)
-    (λ c κs. search needs)
-    (λ c. search needs)
+    (tie.spec (λ c κs. search needs)
+    (λ c. number-short _ _ _ _ _ (omega arith))
+    (λ c κs. search needs) (λ c κs. search needs) (λ c. search needs)
     single-requires
     (λ c. search needs)
     double-requires
-    returns-2
-    returns-3
-    returns-4
-    returns-5)
+    (λ c. alike (signed-kind (c .before .before .before .before .before .args .kind) (c .before .match .keys1)) (c .signed .ensures))
+    (λ c. alike (unsigned-kind (c .before .before .before .before .before .args .kind) (c .before .match .keys2)) (c .unsigned .ensures))
+    returns-4 returns-5)

@@ -16,10 +16,9 @@ returns c =
     (w .before .before .before .before .pre)
     (sym (ap unsignedOf (w .word .given .1)) ∙ w .before .before .get-unsigned .ensures)
 
-returns-2 : tie.Need-returns-2
-returns-2 c = unsigned-wide _ _ _ _ (sym (ap unsignedOf (c .enum-told .given .1)) ∙ c .before .before .get-unsigned .ensures)
-
 pub unsigned-spec : {M : Type 1} → statement M
 unsigned-spec =
     tie.close
-    (tie.spec (λ c κs. search needs) (λ c. search needs) (λ c κs. search needs) (λ c. search needs) returns returns-2)
+    (tie.spec (λ c κs. search needs) (λ c. search needs) (λ c κs. search needs) (λ c. search needs)
+    returns
+    (λ c. unsigned-wide _ _ _ _ (sym (ap unsignedOf (c .enum-told .given .1)) ∙ c .before .before .get-unsigned .ensures)))
