@@ -80,9 +80,6 @@ returns c =
     let s = c .before .before .before .before .before .before in
     call-outside options refl _ _ (s .args .start) _ (data-short s) (sym (ap startedOf (c .enum-told .given .1)) ∙ started (c .before .before))
 
-pass-requires : tie.Need-pass-requires
-pass-requires c κs = (sizes (c .before .before), (stands (c .before .before .before), λ e. absurd (true-not-false (sym e))))
-
 returns-2 : tie.Need-returns-2
 returns-2 c =
     let x = c .before in
@@ -131,21 +128,12 @@ returns-4 c =
 pub string-unpack-spec : {M : Type 1} → statement M
 string-unpack-spec =
     tie.close
-    (tie.spec
-    (λ c κs. search needs)
-    (λ c. search needs)
-    (λ c. search needs)
+    (tie.spec (λ c κs. search needs) (λ c. search needs) (λ c. search needs)
     returns
-    (λ c κs. search needs)
-    (λ c κs. search needs)
-    (λ c κs. search needs)
-    pass-requires
-    (λ c. search needs)
-    (λ c. search needs)
-    (λ c. search needs)
-    returns-2
-    pass-requires-2
-    position-of-requires
+    (λ c κs. search needs) (λ c κs. search needs) (λ c κs. search needs)
+    (λ c κs. (sizes (c .before .before), (stands (c .before .before .before), λ e. absurd (true-not-false (sym e)))))
+    (λ c. search needs) (λ c. search needs) (λ c. search needs)
+    returns-2 pass-requires-2 position-of-requires
     (λ c. search needs)
     returns-3
     (λ c. search needs)

@@ -39,18 +39,6 @@ item c =
     let x = c .before .before in
     sym (x .before .before .next .ensures) ∙ ap nextOf (x .i .given .1) ∙ ap (λ (o : Op). accepted (some (o, x .i .given .0 .1 .0 .at))) (sym (c .op .ensures))
 
-loop-holds : tie.Need-loop-holds Inv-loop μ-loop
-loop-holds c = passing-none _ (c .new .ensures) (c .before .before .before .before .pre .1 .0)
-
-next-requires : tie.Need-next-requires Inv-loop μ-loop
-next-requires c κs = c .before .before .before .before .before .pre .0
-
-enum-told : tie.Need-enum-told Inv-loop μ-loop
-enum-told c = c .match .keys1
-
-same-length : tie.Need-same-length Inv-loop μ-loop
-same-length c = let l = c .before .before .before .before in passing-length (l .loop .inv) (entry l .pre .1 .1)
-
 returns : tie.Need-returns Inv-loop μ-loop
 returns c =
     let l = c .before .before .before .before in
@@ -58,28 +46,16 @@ returns c =
     (c .offset-in .ensures)
     (sym (c .before .before .before .next .ensures) ∙ ap nextOf (c .before .enum-told .given .1))
 
-enum-known-k : tie.Need-enum-known-k Inv-loop μ-loop
-enum-known-k c = c .match .keys2
-
-same-length-2 : tie.Need-same-length-2 Inv-loop μ-loop
-same-length-2 c = let l = c .before .before .before .before in passing-length (l .loop .inv) (entry l .pre .1 .1)
-
 returns-2 : tie.Need-returns-2 Inv-loop μ-loop
 returns-2 c =
     let l = c .before .before .before .before in
     passing-refusal (l .loop .inv) (entry l .pre .1 .1)
     (sym (c .before .before .before .next .ensures) ∙ ap nextOf (c .before .k .given .1))
 
-enum-known-i : tie.Need-enum-known-i Inv-loop μ-loop
-enum-known-i c = c .match .keys3
-
 read-op-requires : tie.Need-read-op-requires Inv-loop μ-loop
 read-op-requires c κs =
     let l = looped c in
     (l .loop .inv .so-far .stands, valid (tableAt (entry l .args .table .now)) (entry l .args .format .now) (l .loop .c .at) (item c) (entry l .pre .0))
-
-enum-known-k-2 : tie.Need-enum-known-k-2 Inv-loop μ-loop
-enum-known-k-2 c = c .match2 .keys1
 
 same-length-3 : tie.Need-same-length-3 Inv-loop μ-loop
 same-length-3 c =
@@ -92,9 +68,6 @@ returns-3 c =
     let l = looped o in
     passing-refused (l .loop .inv) (entry l .pre .1 .1)
     (item o) (c .before .before .before .read-op .ensures) (c .before .k2 .given .1)
-
-enum-known-t : tie.Need-enum-known-t Inv-loop μ-loop
-enum-known-t c = c .match2 .keys2
 
 loop-less : tie.Need-loop-less Inv-loop μ-loop
 loop-less c =
@@ -111,9 +84,6 @@ loop-again c =
     passing-set (l .loop .inv) (entry l .pre .1 .1)
     (item o) (x .before .before .read-op .ensures) (x .t .given .1) (c .parts .ensures)
 
-enum-known-r : tie.Need-enum-known-r Inv-loop μ-loop
-enum-known-r c = c .match2 .keys3
-
 put-reading-requires : tie.Need-put-reading-requires Inv-loop μ-loop
 put-reading-requires c κs =
     let x = c .before .before .before in
@@ -128,9 +98,6 @@ size-of-requires c κs =
     let o = x .before .before .before in
     let l = looped o in
     passing-short (l .loop .inv) (entry l .pre .1 .1) (item o) (x .before .before .read-op .ensures) (x .r .given .1)
-
-sum-requires : tie.Need-sum-requires Inv-loop μ-loop
-sum-requires c κs = c .size-of .ensures .1
 
 loop-less-2 : tie.Need-loop-less-2 Inv-loop μ-loop
 loop-less-2 c =
@@ -158,33 +125,27 @@ loop-again-2 c =
 pub pass-spec : {M : Type 1} → statement M
 pass-spec =
     tie.close
-    (tie.spec
-    Inv-loop
-    μ-loop
+    (tie.spec Inv-loop μ-loop
     (λ c κs. tt)
-    loop-holds
-    next-requires
-    enum-told
+    (λ c. passing-none _ (c .new .ensures) (c .before .before .before .before .pre .1 .0))
+    (λ c κs. c .before .before .before .before .before .pre .0)
+    (λ c. c .match .keys1)
     (λ c κs. tt)
-    same-length
+    (λ c. let l = c .before .before .before .before in passing-length (l .loop .inv) (entry l .pre .1 .1))
     returns
-    enum-known-k
-    same-length-2
+    (λ c. c .match .keys2)
+    (λ c. let l = c .before .before .before .before in passing-length (l .loop .inv) (entry l .pre .1 .1))
     returns-2
-    enum-known-i
+    (λ c. c .match .keys3)
     (λ c κs. tt)
     read-op-requires
-    enum-known-k-2
-    same-length-3
-    returns-3
-    enum-known-t
+    (λ c. c .match2 .keys1)
+    same-length-3 returns-3
+    (λ c. c .match2 .keys2)
     (λ c κs. tt)
-    loop-less
-    loop-again
-    enum-known-r
-    put-reading-requires
-    size-of-requires
-    sum-requires
+    loop-less loop-again
+    (λ c. c .match2 .keys3)
+    put-reading-requires size-of-requires
+    (λ c κs. c .size-of .ensures .1)
     (λ c κs. tt)
-    loop-less-2
-    loop-again-2)
+    loop-less-2 loop-again-2)

@@ -54,8 +54,7 @@ returns-3 c =
 pub put-reading-spec : {M : Type 1} → statement M
 put-reading-spec =
     tie.close
-    (tie.spec
-    (λ c. search needs)
+    (tie.spec (λ c. search needs)
     put-integer-requires
     (λ c. search needs)
     put-float-requires
