@@ -19,12 +19,7 @@ returns-2 c =
 pub digribbon-pack-spec : {M : Type 1} → statement M
 digribbon-pack-spec =
     tie.close
-    (tie.spec
-    (λ c κs. search needs)
-    (λ c. search needs)
-    (λ c. search needs)
-    (λ c. search needs)
-    (λ c. search needs)
+    (tie.spec (λ c κs. search needs) (λ c. search needs) (λ c. search needs) (λ c. search needs) (λ c. search needs)
     returns
     (λ c. search needs)
     returns-2)

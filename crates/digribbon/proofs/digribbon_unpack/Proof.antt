@@ -35,12 +35,7 @@ returns-2 c =
 pub digribbon-unpack-spec : {M : Type 1} → statement M
 digribbon-unpack-spec =
     tie.close
-    (tie.spec
-    (λ c κs. search needs)
-    (λ c. search needs)
-    (λ c. search needs)
-    (λ c. search needs)
-    (λ c. search needs)
+    (tie.spec (λ c κs. search needs) (λ c. search needs) (λ c. search needs) (λ c. search needs) (λ c. search needs)
     returns
     (λ c. search needs)
     returns-2)
