@@ -3,14 +3,13 @@ use mathlib.Core.Path.{_∙_}
 use native.Mathlib.Omega.{arith}
 use lib.Dec.{lit≤}
 use lib.ListN.{length-set}
-use denote.Ref.{now}
 use Rattle.fields.proofs.Storing.{head-stored}
 use borrow.Author.Needs.{needs}
 use Rattle.fields.proofs.put_head.Statement.{statement}
 use Rattle.fields.proofs.put_head.Tie as tie
 
 returns : tie.Need-returns
-returns c = let s = c .before .before .before .before .before in head-stored (now (s .args .out)) _ (s .args .at) (s .args .tag) (s .args .n) (s .pre) (c .before .before .put-number .ensures)
+returns c = let s = c .before .before .before .before .before in head-stored (s .args .out .now) _ (s .args .at) (s .args .tag) (s .args .n) (s .pre) (c .before .before .put-number .ensures)
 
 pub put-head-spec : {M : Type 1} → statement M
 put-head-spec =
