@@ -1,9 +1,8 @@
 -- `string_unpack` meets its contract: 16, then the first pass's refusal, then 22, else the list that the second pass puts.
 use Prim.Native.Nat.{ℕ, _^_, _<_}
 use native.Mathlib.Omega.{arith}
-use mathlib.Core.Path.{_≡_, refl, sym, ap, _∙_, subst}
+use mathlib.Core.Path.{_≡_, refl, sym, subst}
 use mathlib.Core.List.{List}
-use lib.IntN.{ℤ}
 use lib.ListN.{length}
 use mir.Facts.{toZ-ofZ}
 use Rattle.definition.specs.Answers.{Checked, accepted}
@@ -12,13 +11,12 @@ use Rattle.definition.specs.Values.{Value}
 use Rattle.definition.specs.States.{start}
 use Rattle.definition.specs.Writing.{Place}
 use Rattle.definition.specs.Reading.{offsetOf, atOffset}
-use Rattle.definition.specs.declared.State.{State}
 use Rattle.definition.proofs.Answers.{true-not-false}
 use Rattle.definition.proofs.Ops.{Sizes, options-sizes}
 use Rattle.format.specs.Packed.{tableAt}
 use Rattle.position.specs.Starts.{startedOf}
 use Rattle.fetch.specs.Readings.{Stands}
-use Rattle.read.specs.Runs.{readAt, Totals, Reads}
+use Rattle.read.specs.Runs.{readAt, Reads}
 use Rattle.read.proofs.Calls.{offset-inside, call-outside, call-refused, call-long, call-fits, call-read}
 use borrow.Author.Needs.{needs}
 use Rattle.read.proofs.string_unpack.Statement.{statement}
@@ -40,17 +38,15 @@ opened x = x .before .before .before .before .before .before .before .before .be
 -- what the start gives
 started : (c : tie.After-offset-of) → let s = c .before .before .before .before in
     startedOf (c .offset-of .result) ≡ offsetOf (s .args .start) (length (s .args .«data» .now))
-started c =
-    let s = c .before .before .before .before in
-    c .offset-of .ensures ∙ ap (λ (p : ℤ). offsetOf p (length (s .args .«data» .now))) (toZ-ofZ (s .fits .start))
+started c = rw (toZ-ofZ (c .before .before .before .before .fits .start)) at (c .offset-of .ensures)
 
 -- the offset, and the state there
 found : (a : tie.After-at-offset) → let s = entry a in
     accepted (a .before .before .before .offset .given .0 .0) ≡ offsetOf (s .args .start) (length (s .args .«data» .now))
-found a = let o = a .before .before .before in sym (ap startedOf (o .offset .given .1)) ∙ started (o .before .before)
+found a = let o = a .before .before .before in rw (o .offset .given .1) at (started (o .before .before))
 
 placed : (a : tie.After-at-offset) → a .at-offset .result ≡ atOffset start (a .before .before .before .offset .given .0 .0)
-placed a = a .at-offset .ensures ∙ ap (λ (t : State). atOffset t (a .before .before .before .offset .given .0 .0)) (a .before .start .ensures)
+placed a = rw (a .before .start .ensures) at (a .at-offset .ensures)
 
 stands : (a : tie.After-at-offset) → Stands (entry a .args .«data» .now) (a .at-offset .result)
 stands a =
@@ -73,12 +69,12 @@ abbrev tabled : tie.After-known-told3 → tie.After-table
 tabled x = x .before .before .before .before .before .before .before .before
 
 reads : (x : tie.After-known-told3) → Reads (entry (opened x) .args .«data» .now) (reading (tabled x)) (x .before .length .given .0 .0) (x .before .length .given .0 .1 .0)
-reads x = subst (Totals (entry (opened x) .args .«data» .now) (reading (tabled x))) (x .before .length .given .1) (x .before .before .before .before .before .pass .ensures .0)
+reads x = rw (x .before .length .given .1) at (x .before .before .before .before .before .pass .ensures .0)
 
 returns : tie.Need-returns
 returns c =
     let s = c .before .before .before .before .before .before in
-    call-outside options refl _ _ (s .args .start) _ (data-short s) (sym (ap startedOf (c .enum-told .given .1)) ∙ started (c .before .before))
+    call-outside options refl _ _ (s .args .start) _ (data-short s) (rw (c .enum-told .given .1) at (started (c .before .before)))
 
 returns-2 : tie.Need-returns-2
 returns-2 c =
@@ -112,7 +108,7 @@ returns-3 c =
     let t = p .before .before .before in
     call-refused (lent t) (t .table .ensures) _ _ (s .args .start) _ (data-short s) (found a) (placed a)
     (p .pass .ensures .1)
-    (subst (Totals (s .args .«data» .now) (reading t)) (c .before .k .given .1) (p .pass .ensures .0))
+    (rw (c .before .k .given .1) at (p .pass .ensures .0))
 
 returns-4 : tie.Need-returns-4
 returns-4 c =

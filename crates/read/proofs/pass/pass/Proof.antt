@@ -2,13 +2,12 @@
 -- at the front of the buffer. The measure is what is left of the format.
 use Prim.Native.Nat.{_^_, _-_, _<_}
 use native.Mathlib.Omega.{arith}
-use mathlib.Core.Path.{_≡_, sym, ap, _∙_}
+use mathlib.Core.Path.{_≡_, sym, _∙_}
 use mathlib.Core.Logic.{⊎-elim}
 use mathlib.Core.Option.{some}
 use lib.ListN.{length, drop}
 use Rattle.definition.specs.Answers.{accepted}
-use Rattle.definition.specs.declared.Op.{Op}
-use Rattle.format.specs.Steps.{nextAt, nextOf}
+use Rattle.format.specs.Steps.{nextAt}
 use Rattle.format.specs.Packed.{tableAt}
 use Rattle.format.proofs.Walking.{valid, ahead}
 use Rattle.read.proofs.Passing.{Passing, passing-none, passing-length, passing-end, passing-refusal, passing-refused, passing-set, passing-short, passing-room, passing-put, passing-kept, passing-more}
@@ -35,22 +34,20 @@ entry l = l .before .before .before .before .before
 item : (c : tie.After-op Inv-loop μ-loop) → let l = looped c in
     nextAt (tableAt (entry l .args .table .now)) (l .loop .c .at) (drop (l .loop .c .at) (entry l .args .format .now))
     ≡ accepted (some (c .op .result, c .before .before .i .given .0 .1 .0 .at))
-item c =
-    let x = c .before .before in
-    sym (x .before .before .next .ensures) ∙ ap nextOf (x .i .given .1) ∙ ap (λ (o : Op). accepted (some (o, x .i .given .0 .1 .0 .at))) (sym (c .op .ensures))
+item c = let x = c .before .before in sym (rw (x .i .given .1, ← c .op .ensures) at (x .before .before .next .ensures))
 
 returns : tie.Need-returns Inv-loop μ-loop
 returns c =
     let l = c .before .before .before .before in
     passing-end (l .loop .inv) (entry l .pre .1 .1)
     (c .offset-in .ensures)
-    (sym (c .before .before .before .next .ensures) ∙ ap nextOf (c .before .enum-told .given .1))
+    (sym (rw (c .before .enum-told .given .1) at (c .before .before .before .next .ensures)))
 
 returns-2 : tie.Need-returns-2 Inv-loop μ-loop
 returns-2 c =
     let l = c .before .before .before .before in
     passing-refusal (l .loop .inv) (entry l .pre .1 .1)
-    (sym (c .before .before .before .next .ensures) ∙ ap nextOf (c .before .k .given .1))
+    (sym (rw (c .before .k .given .1) at (c .before .before .before .next .ensures)))
 
 read-op-requires : tie.Need-read-op-requires Inv-loop μ-loop
 read-op-requires c κs =
