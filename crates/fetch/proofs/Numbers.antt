@@ -55,15 +55,12 @@ module _ (d : List ℕ) (at : Offset) (o : Bool) (n : ℕ) where
   unfolding decode number
   number-short k h = record { says = rw (first-short n (at .0) d h); inside = tt }
 
-  number-refused : (k : Kind) {j : ℕ} → refused j ≡ numberAt o k n (from d at) → Decodes d at o (Field.Number k n) (Decoded.Refused j)
+  pub number-refused : (k : Kind) {j : ℕ} → refused j ≡ numberAt o k n (from d at) → Decodes d at o (Field.Number k n) (Decoded.Refused j)
   number-refused k e = record { says = rw (decode-number o k n (from d at), ← e); inside = tt }
 
   number-read : (k : Kind) (v : Value) (r : Reading) → at .0 + n ≤ length d → accepted v ≡ numberAt o k n (from d at)
       → valueOf d r ≡ v → Inside d r → Decodes d at o (Field.Number k n) (Decoded.Read r n)
   number-read k v r h e f i = record { says = rw (decode-number o k n (from d at), ← e, f); inside = (i, h) }
-
-  pub signed-wide : refused 18 ≡ signedAt o n (from d at) → Decodes d at o (Field.Number Signed n) (Decoded.Refused 18)
-  signed-wide e = number-refused Signed e
 
   pub signed-read : {y z : ℤ} → y ≡ z → at .0 + n ≤ length d → accepted (integer z) ≡ signedAt o n (from d at)
       → Decodes d at o (Field.Number Signed n) (Decoded.Read (Integer y) n)

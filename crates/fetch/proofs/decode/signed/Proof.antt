@@ -1,5 +1,5 @@
 -- `signed` meets its contract: the integer of the bytes, or 18.
-use Rattle.fetch.proofs.Numbers.{signed-read, signed-wide}
+use Rattle.fetch.proofs.Numbers.{signed-read, number-refused}
 use borrow.Author.Needs.{needs}
 use Rattle.fetch.proofs.decode.signed.Statement.{statement}
 use Rattle.fetch.proofs.decode.signed.Tie as tie
@@ -9,4 +9,4 @@ signed-spec =
     tie.close
     (tie.spec (λ c κs. search needs) (λ c. search needs) (λ c. search needs)
     (λ c. let g = c .before .before .before in signed-read _ _ _ _ (search needs) (g .before .before .pre) (rw (c .before .z .given .1) at (g .get-signed .ensures)))
-    (λ c. signed-wide _ _ _ _ (rw (c .enum-told .given .1) at (c .before .before .get-signed .ensures))))
+    (λ c. number-refused _ _ _ _ _ (rw (c .enum-told .given .1) at (c .before .before .get-signed .ensures))))
