@@ -1,15 +1,12 @@
 -- `string_unpack` meets its contract: 16, then the first pass's refusal, then 22, else the list that the second pass puts.
-use Prim.Native.Nat.{ℕ, _^_, _<_}
+use Prim.Native.Nat.{_^_, _<_}
 use native.Mathlib.Omega.{arith}
 use mathlib.Core.Path.{_≡_, refl, sym, subst}
-use mathlib.Core.List.{List}
 use lib.ListN.{length}
 use mir.Facts.{toZ-ofZ}
-use Rattle.definition.specs.Answers.{Checked, accepted}
+use Rattle.definition.specs.Answers.{accepted}
 use Rattle.definition.specs.Options.{Table, options}
-use Rattle.definition.specs.Values.{Value}
 use Rattle.definition.specs.States.{start}
-use Rattle.definition.specs.Writing.{Place}
 use Rattle.definition.specs.Reading.{offsetOf, atOffset}
 use Rattle.definition.proofs.Answers.{true-not-false}
 use Rattle.definition.proofs.Ops.{Sizes, options-sizes}
@@ -28,12 +25,12 @@ data-short s = omega (arith, s .good .1 .0 .1)
 list-short : (s : tie.Start) → length (s .args .list .now) < 2 ^ 63
 list-short s = omega (arith, s .good .1 .1 .1 .0 .1)
 
--- the entry, and the state that the start's offset gives, from later places
+-- the entry and the table, from later places
 abbrev entry : tie.After-at-offset → tie.Start
 entry a = a .before .before .before .before .before .before .before .before .before
 
-abbrev opened : tie.After-known-told3 → tie.After-at-offset
-opened x = x .before .before .before .before .before .before .before .before .before
+abbrev tabled : tie.After-known-told3 → tie.After-table
+tabled x = x .before .before .before .before .before .before .before .before
 
 -- what the start gives
 started : (c : tie.After-offset-of) → let s = c .before .before .before .before in
@@ -60,15 +57,9 @@ lent t = tableAt (t .table .result)
 sizes : (t : tie.After-table) → Sizes (lent t)
 sizes t = subst Sizes (sym (t .table .ensures)) options-sizes
 
--- what reading gives there
-abbrev reading : (t : tie.After-table) → Checked (Place ℕ × List Value)
-reading t = let a = t .before in readAt (lent t) (entry a .args .format .now) (entry a .args .«data» .now) (a .at-offset .result)
-
 -- what the first pass gives
-abbrev tabled : tie.After-known-told3 → tie.After-table
-tabled x = x .before .before .before .before .before .before .before .before
-
-reads : (x : tie.After-known-told3) → Reads (entry (opened x) .args .«data» .now) (reading (tabled x)) (x .before .length .given .0 .0) (x .before .length .given .0 .1 .0)
+reads : (x : tie.After-known-told3) → let t = tabled x in let a = entry (t .before) .args in
+    Reads (a .«data» .now) (readAt (lent t) (a .format .now) (a .«data» .now) (t .before .at-offset .result)) (x .before .length .given .0 .0) (x .before .length .given .0 .1 .0)
 reads x = rw (x .before .length .given .1) at (x .before .before .before .before .before .pass .ensures .0)
 
 returns : tie.Need-returns
@@ -79,26 +70,26 @@ returns c =
 returns-2 : tie.Need-returns-2
 returns-2 c =
     let x = c .before in
-    let a = opened x in
-    let s = entry a in
-    call-long (lent (tabled x)) (tabled x .table .ensures) _ _ (s .args .start) _ (data-short s) (found a) (placed a)
+    let t = tabled x in
+    let s = entry (t .before) in
+    call-long (lent t) (t .table .ensures) _ _ (s .args .start) _ (data-short s) (found (t .before)) (placed (t .before))
     (x .before .before .before .before .before .pass .ensures .1)
     (reads x) (list-short s) (c .if1 .taken)
 
 pass-requires-2 : tie.Need-pass-requires-2
 pass-requires-2 c κs =
     let x = c .before .before .before in
-    let a = opened x in
-    let s = entry a in
-    let fits = call-fits (lent (tabled x)) (tabled x .table .ensures) _ _ (s .args .start) (s .args .list .now) (data-short s) (found a) (placed a)
+    let t = tabled x in
+    let s = entry (t .before) in
+    let fits = call-fits (lent t) (t .table .ensures) _ _ (s .args .start) (s .args .list .now) (data-short s) (found (t .before)) (placed (t .before))
     (x .before .before .before .before .before .pass .ensures .1)
     (reads x) (list-short s) (c .before .before .if1 .left) in
-    (sizes (tabled x), (stands a, λ e. fits))
+    (sizes t, (stands (t .before), λ e. fits))
 
 position-of-requires : tie.Need-position-of-requires
 position-of-requires c κs =
     let x = c .before .before .before .before .before .before in
-    omega (arith, reads x .inside, data-short (entry (opened x)))
+    omega (arith, reads x .inside, data-short (entry (tabled x .before)))
 
 returns-3 : tie.Need-returns-3
 returns-3 c =
@@ -113,9 +104,9 @@ returns-3 c =
 returns-4 : tie.Need-returns-4
 returns-4 c =
     let x = c .before .before .before .before .before .before .before in
-    let a = opened x in
-    let s = entry a in
-    call-read (lent (tabled x)) (tabled x .table .ensures) _ _ (s .args .start) _ (data-short s) (found a) (placed a)
+    let t = tabled x in
+    let s = entry (t .before) in
+    call-read (lent t) (t .table .ensures) _ _ (s .args .start) _ (data-short s) (found (t .before)) (placed (t .before))
     (x .before .before .before .before .before .pass .ensures .1)
     (reads x) (list-short s) (c .before .before .before .before .before .before .if1 .left)
     (c .before .before .before .pass2 .ensures .1)
