@@ -7,6 +7,7 @@ use borrow.Author.Needs.{needs}
 use Rattle.fetch.proofs.read_text.Statement.{statement}
 use Rattle.fetch.proofs.read_text.Tie as tie
 
+-- the entry, from where the padding is known
 abbrev entry : tie.After-known-told2 → tie.Start
 entry c = c .before .before .before .before .before .before
 

@@ -8,4 +8,4 @@ pub put-number-spec : {M : Type 1} → statement M
 put-number-spec =
     tie.close
     (tie.spec (λ c κs. search needs) (λ c. search needs)
-    (λ c. rw (laid-big _ _ 0 (c .before .before .before .before .before .pre .0)) at (c .before .before .put .ensures)))
+    (λ c. rw (← laid-big _ _ 0 (c .before .before .before .before .before .pre .0)) (c .before .before .put .ensures)))

@@ -6,6 +6,7 @@ use borrow.Author.Needs.{needs}
 use Rattle.fetch.proofs.decode.counted.Statement.{statement}
 use Rattle.fetch.proofs.decode.counted.Tie as tie
 
+-- the byte order that was passed
 abbrev order : tie.After-further → Bool
 order f = f .before .before .before .before .before .before .before .before .args .big
 
