@@ -43,24 +43,23 @@ paste-front d x n e y m f =
 
 -- ---- a loop that writes the n elements of s into d from index `at` on, one a turn
 
--- d has room for the elements
-pub record Room (d s : List ℕ) (at n : ℕ) : Type 0 where
+-- the loop's invariant: d has room for the elements, and j of them are written
+pub record Pasted (d s : List ℕ) (at n : ℕ) (out : List ℕ) (j : ℕ) : Type 0 where
   pub fits : at + n ≤ length d
   pub whole : length s ≡ n
+  pub is : out ≡ paste d at s j
+  pub within : j ≤ n
 
--- the loop's invariant: j of the elements are written
-abbrev pub Pasted : List ℕ → List ℕ → ℕ → ℕ → List ℕ → ℕ → Type 0
-Pasted d s at n out j = (out ≡ paste d at s j) × (j ≤ n)
+pub pasted-none : {d s : List ℕ} {at n : ℕ} → at + n ≤ length d → length s ≡ n → Pasted d s at n d 0
+pasted-none {d} {s} {at} h e = record { fits = h; whole = e; is = paste-zero d at s; within = omega arith }
 
-module _ {d s : List ℕ} {at n : ℕ} (r : Room d s at n) where
-  pub pasted-none : Pasted d s at n d 0
-  pasted-none = (paste-zero d at s, omega arith)
+module _ {d s : List ℕ} {at n : ℕ} {out : List ℕ} {j : ℕ} (p : Pasted d s at n out j) where
+  pub pasted-more : {b : ℕ} → j < n → b ≡ getD s j 0 → Pasted d s at n (set out (at + j) b) (j + 1)
+  pasted-more k e =
+      record { fits = p .fits; whole = p .whole; is = rw (p .is, e, add-one j) (paste-suc d at s j 0 (omega arith) (omega arith)); within = omega arith }
 
-  pub pasted-more : {out : List ℕ} {j b : ℕ} → Pasted d s at n out j → j < n → b ≡ getD s j 0 → Pasted d s at n (set out (at + j) b) (j + 1)
-  pasted-more {j = j} p k e = (rw (p .0, e, add-one j) (paste-suc d at s j 0 (omega arith) (omega arith)), omega arith)
+  pub pasted-length : length out ≡ length d
+  pasted-length = ap length (p .is) ∙ length-paste d at s j (omega arith) (omega arith)
 
-  pub pasted-length : {out : List ℕ} {j : ℕ} → Pasted d s at n out j → length out ≡ length d
-  pasted-length {j = j} p = ap length (p .0) ∙ length-paste d at s j (omega arith) (omega arith)
-
-  pub pasted-all : {out : List ℕ} {j : ℕ} → Pasted d s at n out j → n ≤ j → out ≡ paste d at s n
-  pasted-all {j = j} p k = let e : j ≡ n = omega arith in p .0 ∙ ap (paste d at s) e
+  pub pasted-all : n ≤ j → out ≡ paste d at s n
+  pasted-all k = let e : j ≡ n = omega arith in p .is ∙ ap (paste d at s) e

@@ -1,7 +1,7 @@
 -- Two's complement: integers and their 64 bits, and the sign of an integer of any size.
 use Prim.Native.Nat.{ℕ, zero, suc, _+_, _*_, _-_, _/_, _%_, _^_, _≤_, _<_}
 use mathlib.Core.Path.{_≡_, refl, ap, _∙_}
-use mathlib.Core.Bool.{Bool, true, false, cond}
+use mathlib.Core.Bool.{Bool, true, false, cond, true≢false}
 use native.Mathlib.Nat.{zero-add, mod-eq-of-lt, mod-eq-sub-mod, pow-le-pow-right}
 use native.Mathlib.Omega.{arith}
 use lib.Dec.{ltb, lit<}
@@ -43,19 +43,13 @@ pub extent-fits : (x : ℤ) → SFits w64 x → extent x < 2 ^ 63
 extent-fits (pos n) f = f .sfits
 extent-fits (negsuc n) f = f .sfits
 
-is-negative : (x : ℤ) → ltZ x (pos 0) ≡ true → x ≡ negsuc (extent x)
-is-negative (pos n) t = absurd (omega (arith, ltb-true n 0 t))
-is-negative (negsuc n) t = refl
-
-is-positive : (x : ℤ) → ltZ x (pos 0) ≡ false → x ≡ pos (extent x)
-is-positive (pos n) t = refl
-is-positive (negsuc n) t = let z : _≡_ {A = ℕ} 0 1 = cc in absurd (omega arith)
-
 pub negative : (x : ℤ) → SFits w64 x → ltZ (toZ w64 (ofZ w64 x)) (pos 0) ≡ true → x ≡ negsuc (extent x)
-negative x f t = is-negative x (rw (toZ-ofZ f) at t)
+negative (pos n) f t = absurd (omega (arith, ltb-true n 0 (rw (toZ-ofZ f) at t)))
+negative (negsuc n) f t = refl
 
 pub positive : (x : ℤ) → SFits w64 x → ltZ (toZ w64 (ofZ w64 x)) (pos 0) ≡ false → x ≡ pos (extent x)
-positive x f t = is-positive x (rw (toZ-ofZ f) at t)
+positive (pos n) f t = refl
+positive (negsuc n) f t = absurd (true≢false (rw (toZ-ofZ f) at t))
 
 -- ---- the integer of 64 bits from 2^63 on
 

@@ -1,16 +1,11 @@
 -- What a number reads is what the definition decodes.
-use Prim.Native.Nat.{ℕ, _+_, _-_, _^_, _≤_, _<_}
+use Prim.Native.Nat.{ℕ, _+_, _-_, _≤_, _<_}
 use native.Mathlib.Omega.{arith}
-use mathlib.Core.Path.{_≡_, refl, sym, ap, _∙_, subst}
+use mathlib.Core.Path.{_≡_, refl, sym, ap, _∙_}
 use mathlib.Core.Bool.{Bool}
 use mathlib.Core.List.{List, [], _∷_}
-use lib.Dec.{T, eqb→eq}
 use lib.IntN.{ℤ}
 use lib.ListN.{length, drop, length-drop}
-use lib.Signed.{mag}
-use mir.Syntax.{w64}
-use mir.Val.{toZ, ofZ}
-use mir.Facts.{toZ-ofZ}
 use types.Run.{OneOf, miss}
 use denote.Enum.Declared.{tagOf}
 use borrow.Author.Tests.{lt-leb}
@@ -25,7 +20,6 @@ use Rattle.definition.specs.declared.Offset.{Offset}
 use Rattle.definition.specs.declared.Field.{Field}
 use Rattle.definition.specs.declared.Field.the-variants as Field
 use Rattle.definition.proofs.Kind.{the-type}
-use Rattle.definition.proofs.Numbers.{validSize}
 use Rattle.coder.specs.Digits.{lowBytes}
 use Rattle.coder.specs.Numbers.{unsignedAt, signedAt}
 use Rattle.definition.proofs.Bytes.{number-is}
@@ -34,10 +28,6 @@ use Rattle.fetch.specs.declared.decode.Reading.{Reading}
 use Rattle.fetch.specs.declared.decode.Reading.the-variants.{Integer, Float}
 use Rattle.fetch.specs.declared.decode.Decoded.{Decoded}
 use Rattle.fetch.specs.declared.decode.Decoded.the-variants as Decoded
-
--- an integer that was bound from an enum
-pub same-integer : (z : ℤ) → mag z < 2 ^ 63 → toZ w64 (ofZ w64 z) ≡ z
-same-integer z h = toZ-ofZ (record { sfits = h })
 
 pub bind-bind : {A B C : Type 0} (c : Checked A) (f : A → Checked B) (g : B → Checked C) → ((c >>= f) >>= g) ≡ (c >>= λ a. f a >>= g)
 bind-bind (refused k) f g = refl
@@ -65,15 +55,12 @@ module _ (d : List ℕ) (at : Offset) (o : Bool) (n : ℕ) where
   unfolding decode number
   number-short k h = record { says = rw (first-short n (at .0) d h); inside = tt }
 
-  number-refused : (k : Kind) {j : ℕ} → refused j ≡ numberAt o k n (from d at) → Decodes d at o (Field.Number k n) (Decoded.Refused j)
+  pub number-refused : (k : Kind) {j : ℕ} → refused j ≡ numberAt o k n (from d at) → Decodes d at o (Field.Number k n) (Decoded.Refused j)
   number-refused k e = record { says = rw (decode-number o k n (from d at), ← e); inside = tt }
 
   number-read : (k : Kind) (v : Value) (r : Reading) → at .0 + n ≤ length d → accepted v ≡ numberAt o k n (from d at)
       → valueOf d r ≡ v → Inside d r → Decodes d at o (Field.Number k n) (Decoded.Read r n)
   number-read k v r h e f i = record { says = rw (decode-number o k n (from d at), ← e, f); inside = (i, h) }
-
-  pub signed-wide : refused 18 ≡ signedAt o n (from d at) → Decodes d at o (Field.Number Signed n) (Decoded.Refused 18)
-  signed-wide e = number-refused Signed e
 
   pub signed-read : {y z : ℤ} → y ≡ z → at .0 + n ≤ length d → accepted (integer z) ≡ signedAt o n (from d at)
       → Decodes d at o (Field.Number Signed n) (Decoded.Read (Integer y) n)
@@ -136,25 +123,6 @@ unsigned-kind Double h = absurd (miss unsigneds 6 tt h)
 unsigned-kind Signed h = absurd (miss unsigneds 7 tt h)
 unsigned-kind Unsigned h = λ o n s. refl
 
-module _ {d : List ℕ} {at : Offset} {o : Bool} {n : ℕ} {k j : Kind} {r : Decoded} where
-  -- what one kind reads, another reads that is read alike
-  pub alike : Alike j k → Decodes d at o (Field.Number j n) r → Decodes d at o (Field.Number k n) r
-  alike a p = record { says = p .says ∙ a o n (from d at); inside = p .inside }
-
-  -- a kind of the fixed size m
-  pub fixed : {m : ℕ} → k ≡ j → n ≡ m → Decodes d at o (Field.Number j m) r → Decodes d at o (Field.Number k n) r
-  fixed e q p = rw (e, q) p
-
-pub single-size : (k : Kind) (n : ℕ) → T (validSize k n) → k ≡ Single → n ≡ 4
-single-size k n h e = eqb→eq n 4 (subst (λ (x : Kind). T (validSize x n)) e h)
-
-pub double-size : (k : Kind) (n : ℕ) → T (validSize k n) → k ≡ Double → n ≡ 8
-double-size k n h e = eqb→eq n 8 (subst (λ (x : Kind). T (validSize x n)) e h)
-
--- by what a call answered
-pub as-told : {d : List ℕ} {at : Offset} {o : Bool} {f : Field} {x y : Decoded} → x ≡ y → Decodes d at o f x → Decodes d at o f y
-as-told {d} {at} {o} {f} e p = subst (Decodes d at o f) e p
-
--- by the variant
-pub of-field : {d : List ℕ} {at : Offset} {o : Bool} {f g : Field} {x : Decoded} → f ≡ g → Decodes d at o g x → Decodes d at o f x
-of-field e p = rw e p
+-- what one kind reads, another reads that is read alike
+pub alike : {d : List ℕ} {at : Offset} {o : Bool} {n : ℕ} {k j : Kind} {r : Decoded} → Alike j k → Decodes d at o (Field.Number j n) r → Decodes d at o (Field.Number k n) r
+alike {d} {at} {o} {n} a p = record { says = p .says ∙ a o n (from d at); inside = p .inside }

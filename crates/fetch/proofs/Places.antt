@@ -1,7 +1,7 @@
 -- The place after padding, after a field and after an item.
 use Prim.Native.Nat.{ℕ, _+_, _-_, _^_, _≤_, _<_}
 use native.Mathlib.Omega.{arith}
-use mathlib.Core.Path.{_≡_, refl, sym, ap, _∙_, subst}
+use mathlib.Core.Path.{_≡_, refl, sym, ap, _∙_}
 use mathlib.Core.Bool.{Bool}
 use mathlib.Core.List.{List, [], _∷_}
 use lib.Dec.{T}
@@ -18,7 +18,6 @@ use Rattle.definition.specs.Reading.{Read, valuesOf, atOffset, skipped, readFie
 use Rattle.definition.proofs.Traces.{mapOut, readValue}
 use Rattle.definition.specs.declared.State.{State}
 use Rattle.definition.specs.declared.Offset.{Offset}
-use Rattle.definition.specs.declared.Kind.{Kind}
 use Rattle.definition.specs.declared.Field.{Field}
 use Rattle.definition.specs.declared.Field.the-variants as Field
 use Rattle.definition.specs.declared.Setting.{Setting}
@@ -26,10 +25,7 @@ use Rattle.definition.specs.declared.Setting.the-variants as Setting
 use Rattle.definition.specs.declared.Op.{Op}
 use Rattle.definition.specs.declared.Op.the-variants as Op
 use Rattle.definition.proofs.Field.{the-type}
-use Rattle.definition.proofs.Fields.{validField}
 use Rattle.definition.specs.Fields.{decode}
-use Rattle.definition.proofs.Ops.{validOp}
-use Rattle.definition.proofs.Numbers.{validSize}
 use Rattle.fetch.specs.Readings.{Within, valueOf, isText, decodedOf, DecodedInside, Decodes, Stands, placeIn, Skips, afterOf, Countable, fetchedOf, FetchedStands, Fetches}
 use Rattle.fetch.specs.declared.decode.Decoded.{Decoded}
 use Rattle.fetch.specs.declared.decode.Decoded.the-variants as Decoded
@@ -57,10 +53,6 @@ module _ (d : List ℕ) (s : State) (n k : ℕ) where
     pad-read q h =
         let l : p + k ≤ length (drop (s .length) d) = omega (arith, length-drop (s .length) d) in
         record { says = rw (← e, le-leb (p + k) (length (drop (s .length) d)) l, q, ← skipped-is d s (p + k)); inside = h }
-
--- by what a call answered, and by the alignment that was asked for
-pub pad-told : {d : List ℕ} {s : State} {m n k : ℕ} {x y : Skipped} → m ≡ n → x ≡ y → Skips d s m k x → Skips d s n k y
-pad-told q e p = rw (← q, ← e) p
 
 -- ---- a field: t is the offset after its padding, and x is what its bytes give there
 module _ {d : List ℕ} {s : State} {f : Field} where
@@ -132,15 +124,6 @@ module _ {d : List ℕ} {s : State} {n k : ℕ} where
   pad-op p e = rw e (record { says = rw (← p .says); stands = p .inside })
 
 -- ---- by the variant
-pub of-op : {d : List ℕ} {s : State} {a b : Op} {r : Fetched} → a ≡ b → Fetches d s b r → Fetches d s a r
-of-op e p = rw e p
-
-pub valid-as : {a b : Op} → a ≡ b → T (validOp a) → T (validOp b)
-valid-as e h = subst (λ (x : Op). T (validOp x)) e h
-
-pub valid-number : {f : Field} {k : Kind} {n : ℕ} → f ≡ Field.Number k n → T (validField f) → T (validSize k n)
-valid-number e h = subst (λ (x : Field). T (validField x)) e h
-
 -- by the tags of c, z and s
 pub text-tag : (f : Field) → OneOf (1 ∷ 2 ∷ 3 ∷ []) (tagOf the-type f) → T (isText f)
 text-tag (Field.Number k n) h = absurd (miss (1 ∷ 2 ∷ 3 ∷ []) 0 tt h)

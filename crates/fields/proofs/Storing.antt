@@ -1,16 +1,15 @@
 -- What a buffer d holds once a field is written from index `at` on.
 use Prim.Native.Nat.{ℕ, suc, _+_, _≤_}
 use mathlib.Core.Path.{_≡_, refl, ap, _∙_}
-use mathlib.Core.Bool.{true}
 use mathlib.Core.List.{List, [], _∷_, _++_, append-nil}
 use native.Mathlib.Omega.{arith}
 use lib.IntN.{ℤ}
 use lib.ListN.{length, set}
 use lib.Seq.{paste}
-use Rattle.definition.specs.Bytes.{bits, laid}
+use Rattle.definition.specs.Bytes.{bits}
 use Rattle.definition.specs.Lists.{big, listOf}
 use Rattle.definition.specs.Values.{integer, float, text}
-use Rattle.definition.proofs.Lists.{length-big, laid-big}
+use Rattle.definition.proofs.Lists.{length-big}
 use Rattle.coder.proofs.Pasting.{set-paste, paste-on, paste-before}
 
 -- ---- the fields in the definition's terms
@@ -28,10 +27,6 @@ text-field s n e = rw (e, append-nil s)
 
 -- ---- the stores, in the code's order
 module _ (d f : List ℕ) (at : ℕ) where
-  -- a number, by the coder
-  pub number-stored : (n v : ℕ) → n ≤ 8 → f ≡ paste d at (laid true n v 0) n → f ≡ paste d at (big n v) n
-  number-stored n v h q = q ∙ rw (laid-big n v 0 h)
-
   -- the tag, then the length
   pub head-stored : (t n : ℕ) → at + 3 ≤ length d → f ≡ paste (set d at t) (at + 1) (big 2 n) 2 → f ≡ paste d at (t ∷ big 2 n) 3
   head-stored t n h q = q ∙ rw (set-paste d at t (omega arith)) (paste-on d (t ∷ []) (big 2 n) at 1 2 refl (length-big 2 n) h)

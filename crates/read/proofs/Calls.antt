@@ -1,7 +1,7 @@
 -- The call, by what the two passes answer.
 use Prim.Native.Nat.{ℕ, suc, _+_, _-_, _^_, _≤_, _<_}
 use native.Mathlib.Omega.{arith}
-use mathlib.Core.Path.{_≡_, refl, sym, ap, _∙_}
+use mathlib.Core.Path.{_≡_, sym, ap, _∙_}
 use mathlib.Core.Bool.{true, _&&_}
 use mathlib.Core.List.{List}
 use lib.Dec.{leb, ltb}
@@ -23,6 +23,7 @@ use Rattle.definition.specs.declared.Unpacked.{Unpacked}
 use Rattle.definition.proofs.Answers.{same, passed, both-parts}
 use Rattle.definition.proofs.Calls.{into-fits}
 use Rattle.definition.proofs.Traces.{listed, unpack-values}
+use Rattle.fetch.proofs.Numbers.{bind-bind}
 use Rattle.read.specs.Runs.{readAt, Reads, Fits, listInto, listAfter}
 
 -- an offset of data is inside it
@@ -63,12 +64,10 @@ module _ (t : Table) (is : t ≡ options) (f d : List ℕ) (p : ℤ) (b : List �
     called w = into b (w >>= λ r. accepted (listed (r .1, positionOf (offsetIn (r .0 .state)))))
 
     called-is : called (readAt t f d s) ≡ stringUnpack f d p b
-    called-is = rw (is, at) (go (readAt options f d (atOffset start o)) ∙ sym (unpack-values f d p b ∙ rw (no-21, ← e)))
-      where
-        go : (w : Checked (Place ℕ × List Value))
-            → called w ≡ into b ((w >>= λ r. accepted (r .1, positionOf (offsetIn (r .0 .state)))) >>= λ r. accepted (listed r))
-        go (refused k) = refl
-        go (accepted r) = refl
+    called-is =
+        rw (is, at)
+        (ap (into b) (sym (bind-bind (readAt options f d (atOffset start o)) (λ r. accepted (r .1, positionOf (offsetIn (r .0 .state)))) (λ r. accepted (listed r))))
+        ∙ sym (unpack-values f d p b ∙ rw (no-21, ← e)))
 
     -- l is the buffer after the first pass, which is as it was
     module _ {l : List ℕ} (kept : l ≡ b) where

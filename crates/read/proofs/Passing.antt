@@ -46,23 +46,24 @@ within {t} {f} {d} {w} {at} {s} {vs} h {p} {all} e =
 abbrev holding : Bool → List ℕ → List Value → List ℕ
 holding put b vs = cond put (fronted (listOf vs) b) b
 
--- from the state s₀ on, the values `done` were read. Their list has the length `total`, and l is the buffer b with it.
+-- from the state s₀ on, the values `done` were read. Their list has the length `total`, and l is the buffer b with it: with `put`, b has room for all.
 pub record Passing (t : Table) (f d : List ℕ) (s₀ : State) (b : List ℕ) (put : Bool) (at : ℕ) (s : State) (l : List ℕ) (total : ℕ) : Type 0 where
+  pub fits : put ≡ true → Fits t f d s₀ b
   pub done : List Value
   pub so-far : SoFar t f d (readAt t f d s₀) at s done
   pub counted : SameTo63 total (length (listOf done))
   pub holds : l ≡ holding put b done
 
-pub passing-none : {t : Table} {f d : List ℕ} {s : State} {b : List ℕ} {at : ℕ} (put : Bool) → at ≡ 0 → Stands d s → Passing t f d s b put at s b 0
+pub passing-none : {t : Table} {f d : List ℕ} {s : State} {b : List ℕ} {at : ℕ} (put : Bool) → (put ≡ true → Fits t f d s b) → at ≡ 0 → Stands d s → Passing t f d s b put at s b 0
 unfolding listOf
-passing-none {t} {f} {d} {s} {b} {at} put e h = record { done = []; so-far = from-start t f d s at e h; counted = rw no-values; holds = same put }
+passing-none {t} {f} {d} {s} {b} {at} put fits e h = record { fits = fits; done = []; so-far = from-start t f d s at e h; counted = rw no-values; holds = same put }
   where
     same : (x : Bool) → b ≡ holding x b []
     same true = refl
     same false = refl
 
 module _ {t : Table} {f d : List ℕ} {s₀ : State} {b : List ℕ} {put : Bool} {at : ℕ} {s : State} {l : List ℕ} {total : ℕ}
-    (h : Passing t f d s₀ b put at s l total) (fits : put ≡ true → Fits t f d s₀ b) where
+    (h : Passing t f d s₀ b put at s l total) where
   abbrev answer : List ℕ
   answer = cond put (listAfter t f d s₀ b) b
 
@@ -75,7 +76,7 @@ module _ {t : Table} {f d : List ℕ} {s₀ : State} {b : List ℕ} {put : Bool}
     where
       go : (x : Bool) → put ≡ x → l ≡ holding x b (h .done) → length l ≡ length b
       go true e q =
-          let a = fits e in
+          let a = h .fits e in
           omega (arith, ap length q, length-append sofar (drop (length sofar) b), length-drop (length sofar) b, within (h .so-far) (a .accepts), a .room)
       go false e q = ap length q
 
@@ -97,7 +98,7 @@ module _ {t : Table} {f d : List ℕ} {s₀ : State} {b : List ℕ} {put : Bool}
   refused-list e = (e, go put refl (h .holds))
     where
       go : (x : Bool) → put ≡ x → l ≡ holding x b (h .done) → l ≡ cond x (listAfter t f d s₀ b) b
-      go true i q = absurd (never (sym e ∙ fits i .accepts))
+      go true i q = absurd (never (sym e ∙ h .fits i .accepts))
       go false i q = q
 
   pub passing-refusal : {k : ℕ} → nextAt t at (drop at f) ≡ refused k → (readAt t f d s₀ ≡ refused k) × (l ≡ answer)
@@ -108,7 +109,7 @@ module _ {t : Table} {f d : List ℕ} {s₀ : State} {b : List ℕ} {put : Bool}
     passing-refused e = refused-list (item-refused (h .so-far) q g e)
 
     pub passing-set : {x u : State} → r ≡ Fetched.Set x → u ≡ x → Passing t f d s₀ b put p u l total
-    passing-set e i = rw i (record { done = h .done; so-far = item-set (h .so-far) q g e; counted = h .counted; holds = h .holds })
+    passing-set e i = rw i (record { fits = h .fits; done = h .done; so-far = item-set (h .so-far) q g e; counted = h .counted; holds = h .holds })
 
     module _ {v : Reading} {o′ : Offset} (e : r ≡ Fetched.Read v o′) where
       abbrev one : List ℕ
@@ -128,11 +129,11 @@ module _ {t : Table} {f d : List ℕ} {s₀ : State} {b : List ℕ} {put : Bool}
 
       module _ (i : put ≡ true) (below : length b < 2 ^ 63) where
         exact : total ≡ length sofar
-        exact = let a = fits i in omega (arith, h .counted, within (h .so-far) (a .accepts), a .room)
+        exact = let a = h .fits i in omega (arith, h .counted, within (h .so-far) (a .accepts), a .room)
 
         pub passing-room : (total + sizeOf v ≤ length l) × Inside d v
         passing-room =
-            let a = fits i in
+            let a = h .fits i in
             let m = list-append (h .done) (valueOf d v ∷ []) in
             (omega (arith, exact, within next (a .accepts), m, size-is d v inside, passing-length, a .room), inside)
 
@@ -156,4 +157,4 @@ module _ {t : Table} {f d : List ℕ} {s₀ : State} {b : List ℕ} {put : Bool}
           → u ≡ atOffset s o′ → Passing t f d s₀ b put p u k m
       passing-more {c = c} y z add i =
           let j : length sofar + c ≡ length (listOf more) = omega (arith, list-append (h .done) (valueOf d v ∷ []), size-is d v inside, z) in
-          rw i (record { done = more; so-far = next; counted = rw (← j) (add (length sofar) (h .counted)); holds = y })
+          rw i (record { fits = h .fits; done = more; so-far = next; counted = rw (← j) (add (length sofar) (h .counted)); holds = y })

@@ -1,15 +1,14 @@
 -- The length of a field, and the list of values in parts.
-use Prim.Native.Nat.{ℕ, _+_, _≤_}
+use Prim.Native.Nat.{ℕ, _+_}
 use native.Mathlib.Omega.{arith}
-use mathlib.Core.Path.{_≡_, refl, subst}
+use mathlib.Core.Path.{_≡_, refl}
 use mathlib.Core.List.{List, [], _∷_, _++_, append-assoc}
 use lib.ListN.{length, take, length-drop}
-use lib.Seq.{length-take-le, paste}
+use lib.Seq.{length-take-le}
 use Rattle.definition.specs.Bytes.{bits}
 use Rattle.definition.specs.Values.{Value, integer, float, text}
 use Rattle.definition.specs.Lists.{big, content, listOf}
 use Rattle.definition.proofs.Lists.{length-big, length-list}
-use Rattle.definition.specs.declared.Offset.{Offset}
 use Rattle.fetch.specs.Readings.{from, valueOf, Inside}
 use Rattle.fetch.specs.declared.decode.Reading.{Reading}
 use Rattle.fetch.specs.declared.decode.Reading.the-variants.{Integer, Float, Text}
@@ -41,17 +40,3 @@ pub short : (d : List ℕ) (r : Reading) → Inside d r → Short r
 short d (Integer z) h = tt
 short d (Float b) h = tt
 short d (Text start n) h = h .1
-
--- ---- by the variant
-pub text-short : {r : Reading} {start : Offset} {n : ℕ} → r ≡ Text start n → Short r → n ≤ 65535
-text-short e h = subst Short e h
-
-pub text-inside : (d : List ℕ) {r : Reading} {start : Offset} {n : ℕ} → r ≡ Text start n → Inside d r → start .0 + n ≤ length d
-text-inside d e h = subst (Inside d) e h .0
-
-pub room-for : {r q : Reading} (at : ℕ) (l : List ℕ) → r ≡ q → at + sizeOf r ≤ length l → at + sizeOf q ≤ length l
-room-for at l e h = rw (← e) h
-
--- the field of q is put, and r is q
-pub field-put : {r q : Reading} (d k l : List ℕ) (at : ℕ) → r ≡ q → k ≡ paste l at (listOf (valueOf d q ∷ [])) (sizeOf q) → k ≡ paste l at (listOf (valueOf d r ∷ [])) (sizeOf r)
-field-put d k l at e f = rw e f

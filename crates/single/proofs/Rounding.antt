@@ -62,16 +62,13 @@ single-sign = sign-apart binary64 binary32 payload narrow (λ n. omega arith) na
 abbrev bits : ℕ → ℕ → ℕ
 bits m j = toBits binary32 (round binary32 false (m * 2 ^ j) (2 ^ 1074))
 
-shifted : (m j l sh h k : ℕ) → j + l + sh ≡ h + k → m * 2 ^ j * 2 ^ l * 2 ^ sh ≡ m * (2 ^ h * 2 ^ k)
-shifted m j l sh h k e = simp (mul-assoc, ← pow-add, e)
-
 module _ (m j : ℕ) (m-lt : m < 2 ^ 53) where
   leaves-24 : (sh : ℕ) → 29 ≤ sh → m < 2 ^ 24 * 2 ^ sh
   leaves-24 sh l = let e : 53 ≤ 24 + sh = omega arith in rw (← pow-add 2 24 sh) (lt-of-lt-of-le m-lt (pow-mono e))
 
   dropped : (sh k : ℕ) → 29 ≤ sh → j + 149 + sh ≡ 1074 + k → (k ≡ 0) ⊎ ((sh ≡ 29) × (2 ^ 52 ≤ m)) → k ≤ 253 → bits m j ≡ k * 2 ^ 23 + closest m (2 ^ sh)
   dropped sh k l e lo hi =
-      round-bits binary32 (m * 2 ^ j) (2 ^ 1074) m (2 ^ sh) k (pow-pos 1074) (pow-pos sh) (shifted m j 149 sh 1074 k e) (leaves-24 sh l)
+      round-bits binary32 (m * 2 ^ j) (2 ^ 1074) m (2 ^ sh) k (pow-pos 1074) (pow-pos sh) (simp (mul-assoc, ← pow-add, e)) (leaves-24 sh l)
       (⊎-map (λ z. z) (λ h. subst (λ (x : ℕ). 2 ^ 23 * 2 ^ x ≤ m) (sym (h .0)) (h .1)) lo) (omega arith)
 
   -- less than half the least f32
@@ -83,7 +80,7 @@ module _ (m j : ℕ) (m-lt : m < 2 ^ 53) where
   past-largest : 2 ^ 52 ≤ m → 1150 ≤ j → bits m j ≡ 0x7f80_0000
   past-largest lo h =
       let e : j + 149 + 29 ≡ 1074 + (j - 896) = omega arith in
-      round-over binary32 (m * 2 ^ j) (2 ^ 1074) m (2 ^ 29) (j - 896) (pow-pos 1074) (pow-pos 29) (shifted m j 149 29 1074 (j - 896) e) (leaves-24 29 (lit≤ tt)) lo (omega arith)
+      round-over binary32 (m * 2 ^ j) (2 ^ 1074) m (2 ^ 29) (j - 896) (pow-pos 1074) (pow-pos 29) (simp (mul-assoc, ← pow-add, e)) (leaves-24 29 (lit≤ tt)) lo (omega arith)
 
 -- ---- by exponent and fraction
 abbrev Rounds : ℕ → ℕ → ℕ → Type 0

@@ -1,13 +1,9 @@
 -- What is returned is what `fields_after` finds.
-use mathlib.Core.Path.{ap}
-use Prim.Native.Nat.{ℕ}
-use Rattle.digribbon.specs.Answers.{word}
 use borrow.Author.Needs.{needs}
 use Rattle.digribbon.proofs.digribbon_list_after.Statement.{statement}
 use Rattle.digribbon.proofs.digribbon_list_after.Tie as tie
 
-returns : tie.Need-returns
-returns c = ap (λ (n : ℕ). (0, word n)) (c .before .fields-after .ensures)
-
 pub digribbon-list-after-spec : {M : Type 1} → statement M
-digribbon-list-after-spec = tie.close (tie.spec (λ c κs. search needs) returns)
+digribbon-list-after-spec =
+    tie.close
+    (tie.spec (λ c κs. search needs) (λ c. rw (c .before .fields-after .ensures)))

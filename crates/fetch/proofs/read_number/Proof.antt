@@ -1,7 +1,7 @@
 -- `read_number` meets its contract: the offset after the padding, and there the value.
 use Rattle.fetch.specs.Readings.{Skips}
 use Rattle.fetch.specs.declared.Skipped.the-variants.{To}
-use Rattle.fetch.proofs.Places.{field-pad-refused, field-after, countable, pad-told}
+use Rattle.fetch.proofs.Places.{field-pad-refused, field-after, countable}
 use borrow.Author.Needs.{needs}
 use Rattle.fetch.proofs.read_number.Statement.{statement}
 use Rattle.fetch.proofs.read_number.Tie as tie
@@ -9,29 +9,16 @@ use Rattle.fetch.proofs.read_number.Tie as tie
 -- the offset after the padding
 aligned : (c : tie.After-known-told2) → let s = c .before .before .before .before .before .before in
     Skips (s .args .«data» .now) (s .args .s) (s .args .size) 0 (To (c .before .t .given .0 .0))
-aligned c = let p = c .before .before .before in pad-told (p .before .natural .ensures) (c .before .t .given .1) (p .read-pad .ensures)
-
-number-requires : tie.Need-number-requires
-number-requires c κs = (aligned c .inside, c .before .before .before .before .before .before .pre .1)
-
-after-requires : tie.Need-after-requires
-after-requires c κs = countable (c .before .before .before .before .before .before .before .good .0 .0) (c .number .ensures)
+aligned c = let p = c .before .before .before in rw (p .before .natural .ensures, c .before .t .given .1) at (p .read-pad .ensures)
 
 returns : tie.Need-returns
-returns c = let p = c .before .before .before in field-pad-refused (pad-told (p .before .natural .ensures) (c .before .k .given .1) (p .read-pad .ensures))
-
-returns-2 : tie.Need-returns-2
-returns-2 c = field-after (aligned (c .before .before)) (c .before .number .ensures) (c .after .ensures)
+returns c = let p = c .before .before .before in field-pad-refused (rw (p .before .natural .ensures, c .before .k .given .1) at (p .read-pad .ensures))
 
 pub read-number-spec : {M : Type 1} → statement M
 read-number-spec =
     tie.close
-    (tie.spec
-    (λ c κs. search needs)
-    (λ c κs. search needs)
-    (λ c. search needs)
-    (λ c. search needs)
-    number-requires
-    after-requires
+    (tie.spec (λ c κs. search needs) (λ c κs. search needs) (λ c. search needs) (λ c. search needs)
+    (λ c κs. (aligned c .inside, c .before .before .before .before .before .before .pre .1))
+    (λ c κs. countable (c .before .before .before .before .before .before .before .good .0 .0) (c .number .ensures))
     returns
-    returns-2)
+    (λ c. field-after (aligned (c .before .before)) (c .before .number .ensures) (c .after .ensures)))

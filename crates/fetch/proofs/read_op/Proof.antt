@@ -1,48 +1,27 @@
 -- `read_op` meets its contract, by what the item does.
-use mathlib.Core.Path.{refl}
-use Rattle.fetch.proofs.Places.{blank-op, set-op, pad-op-refused, pad-op, of-op, valid-as, pad-told}
+use Rattle.fetch.proofs.Places.{blank-op, set-op, pad-op-refused, pad-op}
 use borrow.Author.Needs.{needs}
 use Rattle.fetch.proofs.read_op.Statement.{statement}
 use Rattle.fetch.proofs.read_op.Tie as tie
 
-read-field-requires : tie.Need-read-field-requires
-read-field-requires c κs = let s = c .before .before .before .before in (s .pre .0, valid-as (c .before .op .given .1) (s .pre .1))
-
-returns : tie.Need-returns
-returns c = of-op (c .before .before .op .given .1) (c .read-field .ensures)
-
-returns-2 : tie.Need-returns-2
-returns-2 c = of-op (c .enum-told .given .1) (blank-op _ _ (c .before .before .before .pre .0))
-
-returns-3 : tie.Need-returns-3
-returns-3 c = let x = c .before .before in of-op (x .op2 .given .1) (set-op _ _ (x .before .before .before .pre .0) (x .op2 .given .0 .0) (c .set .ensures))
-
 returns-4 : tie.Need-returns-4
 returns-4 c =
     let p = c .before .before .before in
-    of-op (p .before .before .op3 .given .1) (pad-op-refused (pad-told refl (c .before .number .given .1) (p .read-pad .ensures)))
+    rw (p .before .before .op3 .given .1) (pad-op-refused (rw (c .before .number .given .1) at (p .read-pad .ensures)))
 
 returns-5 : tie.Need-returns-5
 returns-5 c =
     let p = c .before .before .before .before in
-    of-op (p .before .before .op3 .given .1) (pad-op (pad-told refl (c .before .before .t .given .1) (p .read-pad .ensures)) (c .at-offset .ensures))
+    rw (p .before .before .op3 .given .1) (pad-op (rw (c .before .before .t .given .1) at (p .read-pad .ensures)) (c .at-offset .ensures))
 
 pub read-op-spec : {M : Type 1} → statement M
 read-op-spec =
     tie.close
-    (tie.spec
-    (λ c. search needs)
-    read-field-requires
-    (λ c. search needs)
-    (λ c. search needs)
-    (λ c κs. search needs)
-    (λ c. search needs)
-    (λ c κs. search needs)
-    (λ c. search needs)
-    (λ c. search needs)
-    (λ c κs. search needs)
-    returns
-    returns-2
-    returns-3
-    returns-4
-    returns-5)
+    (tie.spec (λ c. search needs)
+    (λ c κs. let s = c .before .before .before .before in (s .pre .0, rw (c .before .op .given .1) at (s .pre .1)))
+    (λ c. search needs) (λ c. search needs) (λ c κs. search needs) (λ c. search needs) (λ c κs. search needs)
+    (λ c. search needs) (λ c. search needs) (λ c κs. search needs)
+    (λ c. rw (c .before .before .op .given .1) (c .read-field .ensures))
+    (λ c. rw (c .enum-told .given .1) (blank-op _ _ (c .before .before .before .pre .0)))
+    (λ c. let x = c .before .before in rw (x .op2 .given .1) (set-op _ _ (x .before .before .before .pre .0) _ (c .set .ensures)))
+    returns-4 returns-5)

@@ -1,10 +1,9 @@
 -- `read_pad` meets its contract: 6 of the padding, 17 where the data end, else the offset after it.
 use native.Mathlib.Omega.{arith}
-use mathlib.Core.Path.{_≡_, sym, ap, _∙_}
+use mathlib.Core.Path.{_≡_, ap}
 use Rattle.definition.specs.Answers.{accepted}
 use Rattle.definition.specs.States.{padding}
 use Rattle.definition.specs.declared.Offset.{Offset}
-use Rattle.align.specs.Amounts.{amountOf}
 use Rattle.fetch.proofs.Places.{pad-refused, pad-short, pad-read}
 use borrow.Author.Needs.{needs}
 use Rattle.fetch.proofs.read_pad.Statement.{statement}
@@ -12,22 +11,10 @@ use Rattle.fetch.proofs.read_pad.Tie as tie
 
 -- the padding, and the offset of the state
 padded : (c : tie.After-known-told2) → accepted (c .before .p .given .0 .0) ≡ padding (c .before .before .before .before .before .args .s) (c .before .before .before .before .before .args .n)
-padded c = sym (ap amountOf (c .before .p .given .1)) ∙ c .before .before .before .padding .ensures
+padded c = rw (c .before .p .given .1) at (c .before .before .before .padding .ensures)
 
 here : (c : tie.After-offset-in) → c .offset-in .result .0 ≡ c .before .before .before .before .before .before .args .s .length
 here c = ap (λ (o : Offset). o .0) (c .offset-in .ensures)
-
-left-requires : tie.Need-left-requires
-left-requires c κs = let s = c .before .before .before .before .before .before in omega (arith, here c, s .pre)
-
-returns : tie.Need-returns
-returns c = let o = c .before .before in pad-short _ _ _ _ (padded (o .before)) (omega (arith, here o))
-
-returns-2 : tie.Need-returns-2
-returns-2 c = let o = c .before .before .before in pad-short _ _ _ _ (padded (o .before)) (omega (arith, here o))
-
-returns-3 : tie.Need-returns-3
-returns-3 c = pad-refused _ _ _ _ (sym (ap amountOf (c .before .number .given .1)) ∙ c .before .before .before .padding .ensures)
 
 returns-4 : tie.Need-returns-4
 returns-4 c =
@@ -37,15 +24,10 @@ returns-4 c =
 pub read-pad-spec : {M : Type 1} → statement M
 read-pad-spec =
     tie.close
-    (tie.spec
-    (λ c κs. search needs)
-    (λ c. search needs)
-    (λ c. search needs)
-    (λ c κs. search needs)
-    left-requires
-    returns
-    returns-2
-    (λ c. search needs)
-    (λ c κs. search needs)
-    returns-3
+    (tie.spec (λ c κs. search needs) (λ c. search needs) (λ c. search needs) (λ c κs. search needs)
+    (λ c κs. let s = c .before .before .before .before .before .before in omega (arith, here c, s .pre))
+    (λ c. let o = c .before .before in pad-short _ _ _ _ (padded (o .before)) (omega (arith, here o)))
+    (λ c. let o = c .before .before .before in pad-short _ _ _ _ (padded (o .before)) (omega (arith, here o)))
+    (λ c. search needs) (λ c κs. search needs)
+    (λ c. pad-refused _ _ _ _ (rw (c .before .number .given .1) at (c .before .before .before .padding .ensures)))
     returns-4)

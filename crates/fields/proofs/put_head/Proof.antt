@@ -3,20 +3,18 @@ use mathlib.Core.Path.{_∙_}
 use native.Mathlib.Omega.{arith}
 use lib.Dec.{lit≤}
 use lib.ListN.{length-set}
-use denote.Ref.{now}
 use Rattle.fields.proofs.Storing.{head-stored}
 use borrow.Author.Needs.{needs}
 use Rattle.fields.proofs.put_head.Statement.{statement}
 use Rattle.fields.proofs.put_head.Tie as tie
 
-put-number-requires : tie.Need-put-number-requires
-put-number-requires c κs = (lit≤ tt, simp length-set (omega arith))
-
-same-length : tie.Need-same-length
-same-length c = c .before .before .put-number .kept .0 ∙ simp length-set
-
 returns : tie.Need-returns
-returns c = let s = c .before .before .before .before .before in head-stored (now (s .args .out)) _ (s .args .at) (s .args .tag) (s .args .n) (s .pre) (c .before .before .put-number .ensures)
+returns c = let s = c .before .before .before .before .before in head-stored (s .args .out .now) _ (s .args .at) (s .args .tag) (s .args .n) (s .pre) (c .before .before .put-number .ensures)
 
 pub put-head-spec : {M : Type 1} → statement M
-put-head-spec = tie.close (tie.spec (λ c. search needs) (λ c. search needs) put-number-requires same-length returns)
+put-head-spec =
+    tie.close
+    (tie.spec (λ c. search needs) (λ c. search needs)
+    (λ c κs. (lit≤ tt, simp length-set (omega arith)))
+    (λ c. c .before .before .put-number .kept .0 ∙ simp length-set)
+    returns)

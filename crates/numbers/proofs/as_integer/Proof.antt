@@ -1,46 +1,19 @@
 -- `as_integer` meets its contract: by the kind of the value.
 use mathlib.Core.Path.{ap}
 use mathlib.Core.Option.{some}
-use lib.Dec.{T}
-use lib.Ieee.{binary64, nanBits}
 use Rattle.numbers.proofs.Signs.{nan-of-bits}
 use borrow.Author.Needs.{needs}
 use Rattle.numbers.proofs.as_integer.Statement.{statement}
 use Rattle.numbers.proofs.as_integer.Tie as tie
 
-float-to-bits-integer-of : tie.Need-float-to-bits-integer-of
-float-to-bits-integer-of c = rw (c .before .v2 .given .1) at (c .before .before .before .pre)
-
-returns : tie.Need-returns
-returns c l = rw (c .before .v .given .1) (ap some (search needs))
-
-returns-2 : tie.Need-returns-2
-returns-2 c l = rw (c .before .before .v2 .given .1) (c .integer-of .ensures)
-
-returns-3 : tie.Need-returns-3
-returns-3 c l =
-    let nan : T (nanBits binary64 (c .enum-told .given .0 .0)) = rw (c .enum-told .given .1) at (c .before .before .pre) in
-    rw (c .enum-told .given .1, nan-of-bits (c .enum-told .given .0 .0) nan)
-
-returns-4 : tie.Need-returns-4
-returns-4 c l = rw (c .enum-told2 .given .1)
-
-returns-5 : tie.Need-returns-5
-returns-5 c l = rw (c .enum-told3 .given .1)
-
 pub as-integer-spec : {M : Type 1} → statement M
 as-integer-spec =
     tie.close
-    (tie.spec
-    (λ c. search needs)
-    (λ c. search needs)
-    float-to-bits-integer-of
-    (λ c κs. search needs)
-    (λ c. search needs)
-    (λ c. search needs)
-    (λ c. search needs)
-    returns
-    returns-2
-    returns-3
-    returns-4
-    returns-5)
+    (tie.spec (λ c. search needs) (λ c. search needs)
+    (λ c. rw (c .before .v2 .given .1) at (c .before .before .before .pre))
+    (λ c κs. search needs) (λ c. search needs) (λ c. search needs) (λ c. search needs)
+    (λ c l. rw (c .before .v .given .1) (ap some (search needs)))
+    (λ c l. rw (c .before .before .v2 .given .1) (c .integer-of .ensures))
+    (λ c l. rw (c .enum-told .given .1, nan-of-bits _ (rw (c .enum-told .given .1) at (c .before .before .pre))))
+    (λ c l. rw (c .enum-told2 .given .1))
+    (λ c l. rw (c .enum-told3 .given .1)))

@@ -2,45 +2,25 @@
 use mathlib.Core.Path.{sym, ap, subst}
 use mathlib.Core.Option.{some}
 use lib.Dec.{T}
-use lib.Ieee.{binary64, fits, nanBits}
+use lib.Ieee.{binary64}
 use lib.Ieee.Bits.{ofBits-toBits}
 use Rattle.numbers.proofs.Signs.{nan-of-bits}
 use borrow.Author.Needs.{needs}
 use Rattle.numbers.proofs.as_wrapped.Statement.{statement}
 use Rattle.numbers.proofs.as_wrapped.Tie as tie
 
-returns : tie.Need-returns
-returns c l = rw (c .enum-told .given .1)
-
 returns-2 : tie.Need-returns-2
 returns-2 c l =
-    let x = c .before .before .v .given .0 .0 in
-    let f : T (fits binary64 x) = subst T (sym (c .before .known-told .given .0 .1)) tt in
-    rw (c .before .before .v .given .1, ofBits-toBits binary64 x f) (ap some (c .wrapped .ensures))
-
-returns-3 : tie.Need-returns-3
-returns-3 c l =
-    let nan : T (nanBits binary64 (c .enum-told2 .given .0 .0)) = rw (c .enum-told2 .given .1) at (c .before .before .pre) in
-    rw (c .enum-told2 .given .1, nan-of-bits (c .enum-told2 .given .0 .0) nan)
-
-returns-4 : tie.Need-returns-4
-returns-4 c l = rw (c .enum-told3 .given .1)
-
-returns-5 : tie.Need-returns-5
-returns-5 c l = rw (c .enum-told4 .given .1)
+    let v = c .before .before .v .given in
+    rw (v .1, ofBits-toBits binary64 (v .0 .0) (subst T (sym (c .before .known-told .given .0 .1)) tt)) (ap some (c .wrapped .ensures))
 
 pub as-wrapped-spec : {M : Type 1} → statement M
 as-wrapped-spec =
     tie.close
-    (tie.spec
+    (tie.spec (λ c. search needs) (λ c. search needs) (λ c κs. search needs) (λ c. search needs) (λ c. search needs)
     (λ c. search needs)
-    (λ c. search needs)
-    (λ c κs. search needs)
-    (λ c. search needs)
-    (λ c. search needs)
-    (λ c. search needs)
-    returns
+    (λ c l. rw (c .enum-told .given .1))
     returns-2
-    returns-3
-    returns-4
-    returns-5)
+    (λ c l. rw (c .enum-told2 .given .1, nan-of-bits _ (rw (c .enum-told2 .given .1) at (c .before .before .pre))))
+    (λ c l. rw (c .enum-told3 .given .1))
+    (λ c l. rw (c .enum-told4 .given .1)))

@@ -17,9 +17,6 @@ use Rattle.numbers.proofs.bits_of.Tie as tie
 got : (c : tie.After-extent) → c .extent .result ≡ extent (c .before .before .args .n)
 got c = c .extent .ensures ∙ ap extent (toZ-ofZ (c .before .before .fits .n))
 
-add-rounded : tie.Need-add-rounded
-add-rounded c = let s = c .before .before in omega (arith, got c, extent-fits (s .args .n) (s .fits .n))
-
 sum : (c : tie.After-rounded) → 2 ^ 63 + c .rounded .result ≡ bits (c .before .before .before .args .n)
 sum c =
     let s = c .before .before .before in
@@ -27,12 +24,6 @@ sum c =
     let m : c .before .extent .result + 1 ≡ suc e = ap (λ (n : ℕ). n + 1) (got (c .before)) ∙ add-one e in
     let r : c .rounded .result ≡ bits (pos (suc e)) = c .rounded .ensures ∙ ap (λ (n : ℕ). bits (pos n)) m in
     ap (λ (b : ℕ). 2 ^ 63 + b) r ∙ bits-negative e ∙ sym (ap bits (negative (s .args .n) (s .fits .n) (c .before .before .if1 .taken)))
-
-add-result : tie.Need-add-result
-add-result c = record { fits = rw (sum c) (bits-lt (c .before .before .before .args .n)) }
-
-returns : tie.Need-returns
-returns c = ap some (sum c)
 
 returns-2 : tie.Need-returns-2
 returns-2 c =
@@ -44,4 +35,10 @@ returns-2 c =
 pub bits-of-spec : {M : Type 1} → statement M
 bits-of-spec =
     tie.close
-    (tie.spec (λ c κs. search needs) add-rounded (λ c κs. search needs) add-result (λ c κs. search needs) (λ c κs. search needs) returns returns-2)
+    (tie.spec (λ c κs. search needs)
+    (λ c. let s = c .before .before in omega (arith, got c, extent-fits (s .args .n) (s .fits .n)))
+    (λ c κs. search needs)
+    (λ c. record { fits = rw (sum c) (bits-lt (c .before .before .before .args .n)) })
+    (λ c κs. search needs) (λ c κs. search needs)
+    (λ c. ap some (sum c))
+    returns-2)

@@ -6,22 +6,10 @@ use Rattle.numbers.proofs.Integers.{at-zero, at-fraction, at-large, at-
 use Rattle.numbers.proofs.integer_of.Statement.{statement}
 use Rattle.numbers.proofs.integer_of.Tie as tie
 
-returns : tie.Need-returns
-returns c = at-zero (c .before .before .args .bits) (c .if2 .taken)
-
-returns-2 : tie.Need-returns-2
-returns-2 c = at-fraction (c .before .before .args .bits) (c .if2 .left) (c .before .if1 .taken)
-
-returns-3 : tie.Need-returns-3
-returns-3 c = at-large (c .before .before .args .bits) (c .if3 .taken)
-
 returns-4 : tie.Need-returns-4
 returns-4 c =
     let s = c .before .before .before in
     at-whole (s .args .bits) (c .before .before .if1 .left) (c .before .if3 .left) (ne-eqb _ _ (c .if4 .taken))
-
-with-sign-requires : tie.Need-with-sign-requires
-with-sign-requires c κs = whole-pos (c .before .before .before .args .bits) (c .before .before .if1 .left)
 
 returns-5 : tie.Need-returns-5
 returns-5 c =
@@ -32,4 +20,11 @@ returns-5 c =
 pub integer-of-spec : {M : Type 1} → statement M
 integer-of-spec =
     tie.close
-    (tie.spec returns returns-2 returns-3 (λ c. search needs) (λ c. search needs) (λ c. search needs) (λ c. search needs) returns-4 with-sign-requires returns-5)
+    (tie.spec
+    (λ c. at-zero (c .before .before .args .bits) (c .if2 .taken))
+    (λ c. at-fraction (c .before .before .args .bits) (c .if2 .left) (c .before .if1 .taken))
+    (λ c. at-large (c .before .before .args .bits) (c .if3 .taken))
+    (λ c. search needs) (λ c. search needs) (λ c. search needs) (λ c. search needs)
+    returns-4
+    (λ c κs. whole-pos (c .before .before .before .args .bits) (c .before .before .if1 .left))
+    returns-5)

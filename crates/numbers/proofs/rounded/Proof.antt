@@ -12,9 +12,6 @@ use Rattle.numbers.proofs.Nearest.{bits, bits-lt, bits-zero, bits-whole
 use Rattle.numbers.proofs.rounded.Statement.{statement}
 use Rattle.numbers.proofs.rounded.Tie as tie
 
-returns : tie.Need-returns
-returns c = bits-zero ∙ ap (λ n. bits (pos n)) (search needs)
-
 abbrev zeros : tie.Else1 → ℕ
 zeros c = leadingZeros 64 (c .before .args .n)
 
@@ -24,15 +21,6 @@ positive c = omega (arith, c .if1 .left)
 up : (c : tie.Else1) → Topped (c .before .args .n) (zeros c)
 up c = topped (c .before .args .n) (positive c) (c .before .fits .n .fits)
 
-cast-zeros : tie.Need-cast-zeros
-cast-zeros c = let h = up c .zeros-lt in omega arith
-
-sub-result-2 : tie.Need-sub-result-2
-sub-result-2 c = let h = up c .zeros-lt in omega arith
-
-shl-nearest : tie.Need-shl-nearest
-shl-nearest c = up c .zeros-lt
-
 sum : (c : tie.After-nearest) → (1085 - zeros (c .before)) * 2 ^ 52 + c .nearest .result ≡ bits (pos (c .before .before .args .n))
 sum c =
     let n = c .before .before .args .n in
@@ -41,13 +29,16 @@ sum c =
     ap (λ (r : ℕ). (1085 - z) * 2 ^ 52 + r) (c .nearest .ensures ∙ ap (λ (m : ℕ). closest m (2 ^ 11)) top)
     ∙ bits-whole n (positive (c .before)) (c .before .before .fits .n .fits)
 
-add-result : tie.Need-add-result
-add-result c = record { fits = rw (sum c) (bits-lt (pos (c .before .before .args .n))) }
-
-returns-2 : tie.Need-returns-2
-returns-2 = sum
-
 pub rounded-spec : {M : Type 1} → statement M
 rounded-spec =
     tie.close
-    (tie.spec returns cast-zeros (λ c. search needs) sub-result-2 (λ c. search needs) shl-nearest (λ c κs. search needs) add-result returns-2)
+    (tie.spec
+    (λ c. bits-zero ∙ ap (λ n. bits (pos n)) (search needs))
+    (λ c. let h = up c .zeros-lt in omega arith)
+    (λ c. search needs)
+    (λ c. let h = up c .zeros-lt in omega arith)
+    (λ c. search needs)
+    (λ c. up c .zeros-lt)
+    (λ c κs. search needs)
+    (λ c. record { fits = rw (sum c) (bits-lt (pos (c .before .before .args .n))) })
+    sum)

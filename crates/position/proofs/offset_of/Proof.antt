@@ -18,32 +18,12 @@ below c = negative (c .before .before .args .start) (c .before .before .fits .st
 above : (c : tie.Else1) → c .before .before .args .start ≡ pos (c .before .extent .result)
 above c = positive (c .before .before .args .start) (c .before .before .fits .start) (c .if1 .left) ∙ ap pos (got (c .before))
 
-returns : tie.Need-returns
-returns c = from-the-end _ _ _ (below (c .before)) (c .if2 .taken)
-
-returns-2 : tie.Need-returns-2
-returns-2 c = before-the-data _ _ _ (below (c .before)) (c .if2 .left)
-
-returns-3 : tie.Need-returns-3
-returns-3 c = no-position _ _ _ (above (c .before)) (c .if3 .taken)
-
-returns-4 : tie.Need-returns-4
-returns-4 c = from-the-front _ _ _ (above (c .before .before)) (c .before .if3 .left) (c .if4 .taken)
-
-returns-5 : tie.Need-returns-5
-returns-5 c = behind-the-data _ _ _ (above (c .before .before)) (c .before .if3 .left) (c .if4 .left)
-
 pub offset-of-spec : {M : Type 1} → statement M
 offset-of-spec =
     tie.close
-    (tie.spec
-    (λ c κs. search needs)
-    (λ c. search needs)
-    (λ c. search needs)
-    (λ c. search needs)
-    (λ c. search needs)
-    returns
-    returns-2
-    returns-3
-    returns-4
-    returns-5)
+    (tie.spec (λ c κs. search needs) (λ c. search needs) (λ c. search needs) (λ c. search needs) (λ c. search needs)
+    (λ c. from-the-end _ _ _ (below (c .before)) (c .if2 .taken))
+    (λ c. before-the-data _ _ _ (below (c .before)) (c .if2 .left))
+    (λ c. no-position _ _ _ (above (c .before)) (c .if3 .taken))
+    (λ c. from-the-front _ _ _ (above (c .before .before)) (c .before .if3 .left) (c .if4 .taken))
+    (λ c. behind-the-data _ _ _ (above (c .before .before)) (c .before .if3 .left) (c .if4 .left)))

@@ -12,11 +12,9 @@ sum c =
     let s = c .before in
     ap (λ (r : ℕ). s .args .bits / 2 ^ 31 * 2 ^ 63 + r) (c .widened .ensures) ∙ sym (double-sign (s .args .bits) (s .fits .bits .fits))
 
-add-result : tie.Need-add-result
-add-result c = record { fits = rw (sum c) (double-lt (c .before .args .bits)) }
-
-returns : tie.Need-returns
-returns = sum
-
 pub from-single-spec : {M : Type 1} → statement M
-from-single-spec = tie.close (tie.spec (λ c. search needs) (λ c κs. search needs) add-result returns)
+from-single-spec =
+    tie.close
+    (tie.spec (λ c. search needs) (λ c κs. search needs)
+    (λ c. record { fits = rw (sum c) (double-lt (c .before .args .bits)) })
+    sum)

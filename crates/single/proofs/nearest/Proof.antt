@@ -33,40 +33,16 @@ module _ (s : tie.Start) where
   room : s .args .n / (half s * 2) < 2 ^ 63
   room = let p = positive in div-lt-iff-lt-mul {k = half s * 2} (omega arith) .1 (omega (arith, s .fits .n .fits))
 
-sub-half : tie.Need-sub-half
-sub-half c = search needs
-
-shl-half : tie.Need-shl-half
-shl-half c = search needs
-
-mul-whole : tie.Need-mul-whole
-mul-whole c = record { fits = rw (twice c) (pow-lt (c .pre .1)) }
-
-div-whole : tie.Need-div-whole
-div-whole c = mul-pos (positive c) (pow-pos 1)
-
-div-if1 : tie.Need-div-if1
-div-if1 = positive
-
-returns : tie.Need-returns
-returns c = gives (c .before) _ (half-down _ _ (positive (c .before)) (c .if1 .taken))
-
-rem-if2 : tie.Need-rem-if2
-rem-if2 c = positive (c .before)
-
-add-result : tie.Need-add-result
-add-result c = omega (arith, room (c .before .before))
-
-returns-2 : tie.Need-returns-2
-returns-2 c = let s = c .before .before in gives s _ (half-up _ _ (positive s) (c .before .if1 .left) (c .if2 .taken))
-
-add-result-2 : tie.Need-add-result-2
-add-result-2 c = omega (arith, room (c .before .before))
-
-returns-3 : tie.Need-returns-3
-returns-3 c = let s = c .before .before in gives s _ (half-even _ _ (positive s) (c .before .if1 .left) (c .if2 .left))
-
 pub nearest-spec : {M : Type 1} → statement M
 nearest-spec =
     tie.close
-    (tie.spec sub-half shl-half mul-whole div-whole div-if1 returns rem-if2 add-result returns-2 add-result-2 returns-3)
+    (tie.spec (λ c. search needs) (λ c. search needs)
+    (λ c. record { fits = rw (twice c) (pow-lt (c .pre .1)) })
+    (λ c. mul-pos (positive c) (pow-pos 1))
+    positive
+    (λ c. gives (c .before) _ (half-down _ _ (positive (c .before)) (c .if1 .taken)))
+    (λ c. positive (c .before))
+    (λ c. omega (arith, room (c .before .before)))
+    (λ c. let s = c .before .before in gives s _ (half-up _ _ (positive s) (c .before .if1 .left) (c .if2 .taken)))
+    (λ c. omega (arith, room (c .before .before)))
+    (λ c. let s = c .before .before in gives s _ (half-even _ _ (positive s) (c .before .if1 .left) (c .if2 .left))))

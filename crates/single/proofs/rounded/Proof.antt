@@ -9,9 +9,6 @@ use Rattle.single.proofs.Rounding.{single-lt, to-zero, to-subnormal, to
 use Rattle.single.proofs.rounded.Statement.{statement}
 use Rattle.single.proofs.rounded.Tie as tie
 
-returns : tie.Need-returns
-returns c = let s = c .before in sym (to-zero (s .args .magnitude) (s .pre) (c .if1 .taken))
-
 returns-2 : tie.Need-returns-2
 returns-2 c = let s = c .before .before .before in c .nearest .ensures ∙ sym (to-subnormal (s .args .magnitude) (s .pre) (c .before .before .if1 .left) (c .before .if2 .taken))
 
@@ -23,19 +20,16 @@ normal c =
     ap (λ (r : ℕ). (magnitude c / 2 ^ 52 - 897) * 2 ^ 23 + r) (c .nearest2 .ensures)
     ∙ sym (to-normal (magnitude c) (c .before .before .before .before .pre) (c .before .before .if2 .left) (c .before .if3 .taken))
 
-add-result : tie.Need-add-result
-add-result c = record { fits = rw (normal c) (lt-of-lt-of-le (single-lt (magnitude c)) (lit≤ tt)) }
-
-returns-3 : tie.Need-returns-3
-returns-3 = normal
-
-returns-4 : tie.Need-returns-4
-returns-4 c = let s = c .before .before .before .before in sym (to-infinity (s .args .magnitude) (s .pre) (c .before .if3 .left) (c .if4 .taken))
-
-returns-5 : tie.Need-returns-5
-returns-5 c = let s = c .before .before .before .before in sym (to-nan (s .args .magnitude) (s .pre) (c .if4 .left))
-
 pub rounded-spec : {M : Type 1} → statement M
 rounded-spec =
     tie.close
-    (tie.spec (λ c. search needs) returns (λ c. search needs) (λ c. search needs) (λ c κs. search needs) returns-2 (λ c. search needs) (λ c κs. search needs) add-result returns-3 returns-4 (λ c. search needs) returns-5)
+    (tie.spec (λ c. search needs)
+    (λ c. let s = c .before in sym (to-zero (s .args .magnitude) (s .pre) (c .if1 .taken)))
+    (λ c. search needs) (λ c. search needs) (λ c κs. search needs)
+    returns-2
+    (λ c. search needs) (λ c κs. search needs)
+    (λ c. record { fits = rw (normal c) (lt-of-lt-of-le (single-lt (magnitude c)) (lit≤ tt)) })
+    normal
+    (λ c. let s = c .before .before .before .before in sym (to-infinity (s .args .magnitude) (s .pre) (c .before .if3 .left) (c .if4 .taken)))
+    (λ c. search needs)
+    (λ c. let s = c .before .before .before .before in sym (to-nan (s .args .magnitude) (s .pre) (c .if4 .left))))

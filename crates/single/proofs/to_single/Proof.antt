@@ -14,14 +14,10 @@ sum c =
     let s = c .before in
     ap (λ (r : ℕ). s .args .bits / 2 ^ 63 * 2 ^ 31 + r) (c .rounded .ensures) ∙ sym (single-sign (s .args .bits) (s .fits .bits .fits))
 
-add-result : tie.Need-add-result
-add-result c = record { fits = rw (sum c) (lt-of-lt-of-le (single-lt (c .before .args .bits)) (lit≤ tt)) }
-
-cast-result : tie.Need-cast-result
-cast-result c = record { fits = rw (sum c) (single-lt (c .before .args .bits)) }
-
-returns : tie.Need-returns
-returns = sum
-
 pub to-single-spec : {M : Type 1} → statement M
-to-single-spec = tie.close (tie.spec (λ c. search needs) (λ c κs. search needs) add-result cast-result returns)
+to-single-spec =
+    tie.close
+    (tie.spec (λ c. search needs) (λ c κs. search needs)
+    (λ c. record { fits = rw (sum c) (lt-of-lt-of-le (single-lt (c .before .args .bits)) (lit≤ tt)) })
+    (λ c. record { fits = rw (sum c) (single-lt (c .before .args .bits)) })
+    sum)

@@ -12,21 +12,18 @@ here c = record { ends = c .pre }
 
 returns : tie.Need-returns
 returns c =
-    let r = c .before .before .before .restored in
-    signed-fits (here (c .before .before .before .before .before .before)) (c .before .before .before .before .get-word .ensures .0) (toZ-ofZ (sfits-of {w = w64} (r .ok)) ∙ r .ensures) (c .before .before .sign-byte .ensures) (c .before .is-filled .ensures) (c .if1 .taken)
+    let r = c .before .before .before in
+    signed-fits (here (r .before .before .before)) (r .before .get-word .ensures .0) (toZ-ofZ (sfits-of {w = w64} (r .restored .ok)) ∙ r .restored .ensures)
+    (c .before .before .sign-byte .ensures) (c .before .is-filled .ensures) (c .if1 .taken)
 
 returns-2 : tie.Need-returns-2
 returns-2 c =
-    let r = c .before .before .before .restored in
-    signed-too-wide (here (c .before .before .before .before .before .before)) (c .before .before .before .before .get-word .ensures .0) (toZ-ofZ (sfits-of {w = w64} (r .ok)) ∙ r .ensures) (c .before .before .sign-byte .ensures) (c .before .is-filled .ensures) (c .if1 .left)
+    let r = c .before .before .before in
+    signed-too-wide (here (r .before .before .before)) (r .before .get-word .ensures .0) (toZ-ofZ (sfits-of {w = w64} (r .restored .ok)) ∙ r .restored .ensures)
+    (c .before .before .sign-byte .ensures) (c .before .is-filled .ensures) (c .if1 .left)
 
 pub get-signed-spec : {M : Type 1} → statement M
 get-signed-spec =
     tie.close
-    (tie.spec
-    (λ c κs. search needs)
-    (λ c κs. search needs)
-    (λ c κs. search needs)
-    (λ c κs. search needs)
-    returns
-    returns-2)
+    (tie.spec (λ c κs. search needs) (λ c κs. search needs) (λ c κs. search needs) (λ c κs. search needs)
+    returns returns-2)

@@ -7,11 +7,9 @@ use Rattle.coder.proofs.reading.get_unsigned.Tie as tie
 here : (c : tie.Start) → Inside (c .args .big) (c .args .size) (c .args .at) (c .args .«data» .now)
 here c = record { ends = c .pre }
 
-returns : tie.Need-returns
-returns c = unsigned-fits (here (c .before .before .before .before)) (c .get-word .ensures .0) (c .before .before .is-filled .ensures) (c .before .if1 .taken)
-
-returns-2 : tie.Need-returns-2
-returns-2 c = unsigned-too-wide (here (c .before .before .before)) (c .before .is-filled .ensures) (c .if1 .left)
-
 pub get-unsigned-spec : {M : Type 1} → statement M
-get-unsigned-spec = tie.close (tie.spec (λ c κs. search needs) (λ c κs. search needs) returns returns-2)
+get-unsigned-spec =
+    tie.close
+    (tie.spec (λ c κs. search needs) (λ c κs. search needs)
+    (λ c. unsigned-fits (here (c .before .before .before .before)) (c .get-word .ensures .0) (c .before .before .is-filled .ensures) (c .before .if1 .taken))
+    (λ c. unsigned-too-wide (here (c .before .before .before)) (c .before .is-filled .ensures) (c .if1 .left)))

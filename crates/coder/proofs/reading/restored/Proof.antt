@@ -22,9 +22,6 @@ add-wrapping-sub-u64 c =
     let l : c .before .args .word < 256 ^ n = rw q at (c .before .pre) in
     rw (shifted-one n (c .if1 .taken)) (omega arith)
 
-rem-wrapping-sub-u64 : tie.Need-rem-wrapping-sub-u64
-rem-wrapping-sub-u64 c = rw (shifted-one (c .before .args .size) (c .if1 .taken)) (pow-pos (c .before .args .size))
-
 returns : tie.Need-returns
 returns c =
     let a = c .before .before .before .args in
@@ -41,13 +38,8 @@ returns-2 c =
 pub restored-spec : {M : Type 1} → statement M
 restored-spec =
     tie.close
-    (tie.spec
-    (λ c. search needs)
-    (λ c. search needs)
+    (tie.spec (λ c. search needs) (λ c. search needs)
     add-wrapping-sub-u64
-    rem-wrapping-sub-u64
-    (λ c κs. search needs)
-    (λ c κs. search needs)
-    (λ c κs. search needs)
-    returns
-    returns-2)
+    (λ c. rw (shifted-one (c .before .args .size) (c .if1 .taken)) (pow-pos (c .before .args .size)))
+    (λ c κs. search needs) (λ c κs. search needs) (λ c κs. search needs)
+    returns returns-2)

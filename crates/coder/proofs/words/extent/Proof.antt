@@ -19,20 +19,12 @@ flipped c =
 kept : (c : tie.Else1) → toZ w64 (ofZ w64 (c .before .args .x)) ≡ pos (extent (c .before .args .x))
 kept c = let f = c .before .fits .x in toZ-ofZ f ∙ positive (c .before .args .x) f (c .if1 .left)
 
-sub-result : tie.Need-sub-result
-sub-result c = let f = c .before .fits .x in rw (toZ-ofZ f) (minus-one-fits (c .before .args .x) f)
-
-cast-result : tie.Need-cast-result
-cast-result c = rw (flipped c) (tt, omega (arith, extent-fits (c .before .args .x) (c .before .fits .x)))
-
-cast-result-2 : tie.Need-cast-result-2
-cast-result-2 c = rw (kept c) (tt, omega (arith, extent-fits (c .before .args .x) (c .before .fits .x)))
-
-returns : tie.Need-returns
-returns c = ap natAbs (flipped c)
-
-returns-2 : tie.Need-returns-2
-returns-2 c = ap natAbs (kept c)
-
 pub extent-spec : {M : Type 1} → statement M
-extent-spec = tie.close (tie.spec sub-result cast-result cast-result-2 returns returns-2)
+extent-spec =
+    tie.close
+    (tie.spec
+    (λ c. let f = c .before .fits .x in rw (toZ-ofZ f) (minus-one-fits (c .before .args .x) f))
+    (λ c. rw (flipped c) (tt, omega (arith, extent-fits (c .before .args .x) (c .before .fits .x))))
+    (λ c. rw (kept c) (tt, omega (arith, extent-fits (c .before .args .x) (c .before .fits .x))))
+    (λ c. ap natAbs (flipped c))
+    (λ c. ap natAbs (kept c)))

@@ -5,11 +5,9 @@ use Rattle.coder.proofs.Twos.{negative, positive}
 use Rattle.coder.proofs.words.sign_byte.Statement.{statement}
 use Rattle.coder.proofs.words.sign_byte.Tie as tie
 
-returns : tie.Need-returns
-returns c = sym (ap sign (negative (c .before .args .x) (c .before .fits .x) (c .if1 .taken)))
-
-returns-2 : tie.Need-returns-2
-returns-2 c = sym (ap sign (positive (c .before .args .x) (c .before .fits .x) (c .if1 .left)))
-
 pub sign-byte-spec : {M : Type 1} → statement M
-sign-byte-spec = tie.close (tie.spec returns returns-2)
+sign-byte-spec =
+    tie.close
+    (tie.spec
+    (λ c. sym (ap sign (negative (c .before .args .x) (c .before .fits .x) (c .if1 .taken))))
+    (λ c. sym (ap sign (positive (c .before .args .x) (c .before .fits .x) (c .if1 .left)))))

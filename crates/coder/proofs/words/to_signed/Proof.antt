@@ -17,9 +17,6 @@ sub-result c =
     let h : n < 2 ^ 63 = omega arith in
     rw (toZ-pos w64 h) (minus-one-fits (pos n) (record { sfits = h }))
 
-returns : tie.Need-returns
-returns c = toZ-pos w64 (c .if1 .taken) ∙ sym (signed-low 8 (c .before .args .word) (omega arith))
-
 returns-2 : tie.Need-returns-2
 returns-2 c =
     let n = c .wrapping-sub-u64 .result - 1 in
@@ -29,11 +26,7 @@ returns-2 c =
 pub to-signed-spec : {M : Type 1} → statement M
 to-signed-spec =
     tie.close
-    (tie.spec
-    (λ c. search needs)
-    (λ c κs. search needs)
-    (λ c. search needs)
-    (λ c. search needs)
+    (tie.spec (λ c. search needs) (λ c κs. search needs) (λ c. search needs) (λ c. search needs)
     sub-result
-    returns
+    (λ c. toZ-pos w64 (c .if1 .taken) ∙ sym (signed-low 8 (c .before .args .word) (omega arith)))
     returns-2)

@@ -13,9 +13,6 @@ use Rattle.coder.proofs.words.to_word.Tie as tie
 got : (c : tie.After-extent) → c .extent .result ≡ extent (c .before .args .x)
 got c = c .extent .ensures ∙ ap extent (toZ-ofZ (c .before .fits .x))
 
-add-wrapping-sub-u64 : tie.Need-add-wrapping-sub-u64
-add-wrapping-sub-u64 c = omega (arith, got (c .before), extent-fits (c .before .before .args .x) (c .before .before .fits .x))
-
 returns : tie.Need-returns
 returns c =
     let x = c .before .before .before .args .x in
@@ -23,10 +20,11 @@ returns c =
     let e : c .wrapping-sub-u64 .result ≡ 2 ^ 64 - 1 - extent x = omega (arith, got (c .before .before), extent-fits x f) in
     e ∙ sym (ap bits (negative x f (c .before .if1 .taken)))
 
-returns-2 : tie.Need-returns-2
-returns-2 c = got (c .before) ∙ sym (ap bits (positive (c .before .before .args .x) (c .before .before .fits .x) (c .if1 .left)))
-
 pub to-word-spec : {M : Type 1} → statement M
 to-word-spec =
     tie.close
-    (tie.spec (λ c κs. search needs) add-wrapping-sub-u64 (λ c κs. search needs) returns returns-2)
+    (tie.spec (λ c κs. search needs)
+    (λ c. omega (arith, got (c .before), extent-fits (c .before .before .args .x) (c .before .before .fits .x)))
+    (λ c κs. search needs)
+    returns
+    (λ c. got (c .before) ∙ sym (ap bits (positive (c .before .before .args .x) (c .before .before .fits .x) (c .if1 .left)))))

@@ -5,11 +5,9 @@ use Rattle.coder.proofs.Placing.{bits-of-bytes}
 use Rattle.coder.proofs.writing.byte_of.Statement.{statement}
 use Rattle.coder.proofs.writing.byte_of.Tie as tie
 
-returns : tie.Need-returns
-returns c = rw (lt-ltb _ 8 (c .if1 .taken), bits-of-bytes (c .before .args .k))
-
-returns-2 : tie.Need-returns-2
-returns-2 c = rw (le-ltb _ 8 (c .if1 .left))
-
 pub byte-of-spec : {M : Type 1} → statement M
-byte-of-spec = tie.close (tie.spec (λ c. search needs) (λ c. search needs) (λ c. search needs) returns returns-2)
+byte-of-spec =
+    tie.close
+    (tie.spec (λ c. search needs) (λ c. search needs) (λ c. search needs)
+    (λ c. rw (lt-ltb _ 8 (c .if1 .taken), bits-of-bytes (c .before .args .k)))
+    (λ c. rw (le-ltb _ 8 (c .if1 .left))))

@@ -4,8 +4,7 @@ use borrow.Author.Needs.{needs}
 use Rattle.fetch.proofs.decode.double.Statement.{statement}
 use Rattle.fetch.proofs.decode.double.Tie as tie
 
-returns : tie.Need-returns
-returns c = double-read _ _ _ 8 (c .get-word .ensures .0) (c .before .before .pre)
-
 pub double-spec : {M : Type 1} → statement M
-double-spec = tie.close (tie.spec (λ c κs. search needs) returns)
+double-spec =
+    tie.close
+    (tie.spec (λ c κs. search needs) (λ c. double-read _ _ _ 8 (c .get-word .ensures .0) (c .before .before .pre)))

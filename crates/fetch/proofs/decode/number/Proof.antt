@@ -1,56 +1,29 @@
 -- `number` meets its contract: 17 where the data end; kinds that are read alike have one function.
 use native.Mathlib.Omega.{arith}
-use Rattle.fetch.proofs.Numbers.{number-short, signed-kind, unsigned-kind, alike, fixed, single-size, double-size}
+use mathlib.Core.Path.{_≡_}
+use lib.Dec.{eqb→eq}
+use Rattle.fetch.proofs.Numbers.{number-short, signed-kind, unsigned-kind, alike}
 use borrow.Author.Needs.{needs}
 use Rattle.fetch.proofs.decode.number.Statement.{statement}
 use Rattle.fetch.proofs.decode.number.Tie as tie
 
-returns : tie.Need-returns
-returns c = number-short _ _ _ _ _ (omega arith)
+-- f has four bytes, and d and n have eight
+four : (c : tie.After-enum-told) → c .before .before .before .before .before .args .size ≡ 4
+four c = eqb→eq _ 4 (rw (c .enum-told .given .1) at (c .before .before .before .before .before .pre .1))
 
-single-requires : tie.Need-single-requires
-single-requires c κs =
-    let s = c .before .before .before .before .before in
-    let q = single-size (s .args .kind) (s .args .size) (s .pre .1) (c .enum-told .given .1) in
-    omega arith
-
-double-requires : tie.Need-double-requires
-double-requires c κs =
-    let s = c .before .before .before .before .before in
-    let q = double-size (s .args .kind) (s .args .size) (s .pre .1) (c .enum-told2 .given .1) in
-    omega arith
-
-returns-2 : tie.Need-returns-2
-returns-2 c = alike (signed-kind (c .before .before .before .before .before .args .kind) (c .before .match .keys1)) (c .signed .ensures)
-
-returns-3 : tie.Need-returns-3
-returns-3 c = alike (unsigned-kind (c .before .before .before .before .before .args .kind) (c .before .match .keys2)) (c .unsigned .ensures)
-
-returns-4 : tie.Need-returns-4
-returns-4 c =
-    let s = c .before .before .before .before .before .before in
-    let k = c .before .enum-told .given .1 in
-    fixed k (single-size (s .args .kind) (s .args .size) (s .pre .1) k) (c .single .ensures)
-
-returns-5 : tie.Need-returns-5
-returns-5 c =
-    let s = c .before .before .before .before .before .before in
-    let k = c .before .enum-told2 .given .1 in
-    fixed k (double-size (s .args .kind) (s .args .size) (s .pre .1) k) (c .double .ensures)
+eight : (c : tie.After-enum-told2) → c .before .before .before .before .before .args .size ≡ 8
+eight c = eqb→eq _ 8 (rw (c .enum-told2 .given .1) at (c .before .before .before .before .before .pre .1))
 
 pub number-spec : {M : Type 1} → statement M
 number-spec =
     tie.close
-    (tie.spec
-    (λ c κs. search needs)
-    returns
-    (λ c κs. search needs)
-    (λ c κs. search needs)
+    (tie.spec (λ c κs. search needs)
+    (λ c. number-short _ _ _ _ _ (omega arith))
+    (λ c κs. search needs) (λ c κs. search needs) (λ c. search needs)
+    (λ c κs. let q = four c in omega arith)
     (λ c. search needs)
-    single-requires
-    (λ c. search needs)
-    double-requires
-    returns-2
-    returns-3
-    returns-4
-    returns-5)
+    (λ c κs. let q = eight c in omega arith)
+    (λ c. alike (signed-kind (c .before .before .before .before .before .args .kind) (c .before .match .keys1)) (c .signed .ensures))
+    (λ c. alike (unsigned-kind (c .before .before .before .before .before .args .kind) (c .before .match .keys2)) (c .unsigned .ensures))
+    (λ c. rw (c .before .enum-told .given .1, four (c .before)) (c .single .ensures))
+    (λ c. rw (c .before .enum-told2 .given .1, eight (c .before)) (c .double .ensures)))

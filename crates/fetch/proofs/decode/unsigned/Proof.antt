@@ -1,9 +1,8 @@
 -- `unsigned` meets its contract: the same 64 bits as an integer, or 18.
-use mathlib.Core.Path.{sym, ap, _∙_}
+use mathlib.Core.Path.{_∙_}
 use mir.Syntax.{w64}
 use mir.Facts.{toZ-ofZ}
 use borrow.Author.Needs.{needs, sfits-of}
-use Rattle.coder.specs.Numbers.{unsignedOf}
 use Rattle.fetch.proofs.Numbers.{unsigned-read, unsigned-wide}
 use Rattle.fetch.proofs.decode.unsigned.Statement.{statement}
 use Rattle.fetch.proofs.decode.unsigned.Tie as tie
@@ -14,12 +13,11 @@ returns c =
     unsigned-read _ _ _ _ (w .word .given .0 .0)
     (toZ-ofZ (sfits-of {w = w64} (c .to-signed .ok)) ∙ c .to-signed .ensures)
     (w .before .before .before .before .pre)
-    (sym (ap unsignedOf (w .word .given .1)) ∙ w .before .before .get-unsigned .ensures)
-
-returns-2 : tie.Need-returns-2
-returns-2 c = unsigned-wide _ _ _ _ (sym (ap unsignedOf (c .enum-told .given .1)) ∙ c .before .before .get-unsigned .ensures)
+    (rw (w .word .given .1) at (w .before .before .get-unsigned .ensures))
 
 pub unsigned-spec : {M : Type 1} → statement M
 unsigned-spec =
     tie.close
-    (tie.spec (λ c κs. search needs) (λ c. search needs) (λ c κs. search needs) (λ c. search needs) returns returns-2)
+    (tie.spec (λ c κs. search needs) (λ c. search needs) (λ c κs. search needs) (λ c. search needs)
+    returns
+    (λ c. unsigned-wide _ _ _ _ (rw (c .enum-told .given .1) at (c .before .before .get-unsigned .ensures))))

@@ -14,28 +14,13 @@ Inv-loop «data» i₀ i = NoZero «data» (offset i₀) i
 abbrev μ-loop : tie.MeasureT-loop
 μ-loop «data» i₀ i = length «data» - i
 
-loop-holds : tie.Need-loop-holds Inv-loop μ-loop
-loop-holds c = no-zero-yet _ _ (c .pre)
-
-returns : tie.Need-returns Inv-loop μ-loop
-returns c = zero-here (c .before .before .before .loop .inv) (search needs) (c .if1 .taken)
-
-loop-again : tie.Need-loop-again Inv-loop μ-loop
-loop-again c = no-zero-more (c .before .before .before .loop .inv) (search needs) (c .if1 .left)
-
-returns-2 : tie.Need-returns-2 Inv-loop μ-loop
-returns-2 c = zero-nowhere (c .before .loop .inv) (search needs)
-
 pub zero-from-spec : {M : Type 1} → statement M
 zero-from-spec =
     tie.close
-    (tie.spec
-    Inv-loop
-    μ-loop
-    loop-holds
+    (tie.spec Inv-loop μ-loop
+    (λ c. no-zero-yet _ _ (c .pre))
     (λ c. search needs)
-    returns
-    (λ c. search needs)
-    (λ c. omega arith)
-    loop-again
-    returns-2)
+    (λ c. zero-here (c .before .before .before .loop .inv) (search needs) (c .if1 .taken))
+    (λ c. search needs) (λ c. omega arith)
+    (λ c. no-zero-more (c .before .before .before .loop .inv) (search needs) (c .if1 .left))
+    (λ c. zero-nowhere (c .before .loop .inv) (search needs)))

@@ -1,14 +1,13 @@
 -- `pass` meets its contract. The invariant: the values that were read so far, whose list has the total as its length and, with `put`, stands
 -- at the front of the buffer. The measure is what is left of the format.
-use Prim.Native.Nat.{_^_, _-_, _<_}
+use Prim.Native.Nat.{_^_, _-_, _<_, _≤_}
 use native.Mathlib.Omega.{arith}
-use mathlib.Core.Path.{_≡_, sym, ap, _∙_}
+use mathlib.Core.Path.{_≡_, sym, _∙_}
 use mathlib.Core.Logic.{⊎-elim}
 use mathlib.Core.Option.{some}
 use lib.ListN.{length, drop}
 use Rattle.definition.specs.Answers.{accepted}
-use Rattle.definition.specs.declared.Op.{Op}
-use Rattle.format.specs.Steps.{nextAt, nextOf}
+use Rattle.format.specs.Steps.{nextAt}
 use Rattle.format.specs.Packed.{tableAt}
 use Rattle.format.proofs.Walking.{valid, ahead}
 use Rattle.read.proofs.Passing.{Passing, passing-none, passing-length, passing-end, passing-refusal, passing-refused, passing-set, passing-short, passing-room, passing-put, passing-kept, passing-more}
@@ -35,121 +34,46 @@ entry l = l .before .before .before .before .before
 item : (c : tie.After-op Inv-loop μ-loop) → let l = looped c in
     nextAt (tableAt (entry l .args .table .now)) (l .loop .c .at) (drop (l .loop .c .at) (entry l .args .format .now))
     ≡ accepted (some (c .op .result, c .before .before .i .given .0 .1 .0 .at))
-item c =
-    let x = c .before .before in
-    sym (x .before .before .next .ensures) ∙ ap nextOf (x .i .given .1) ∙ ap (λ (o : Op). accepted (some (o, x .i .given .0 .1 .0 .at))) (sym (c .op .ensures))
+item c = let x = c .before .before in sym (rw (x .i .given .1, ← c .op .ensures) at (x .before .before .next .ensures))
 
-loop-holds : tie.Need-loop-holds Inv-loop μ-loop
-loop-holds c = passing-none _ (c .new .ensures) (c .before .before .before .before .pre .1 .0)
-
-next-requires : tie.Need-next-requires Inv-loop μ-loop
-next-requires c κs = c .before .before .before .before .before .pre .0
-
-enum-told : tie.Need-enum-told Inv-loop μ-loop
-enum-told c = c .match .keys1
-
-same-length : tie.Need-same-length Inv-loop μ-loop
-same-length c = let l = c .before .before .before .before in passing-length (l .loop .inv) (entry l .pre .1 .1)
-
-returns : tie.Need-returns Inv-loop μ-loop
-returns c =
-    let l = c .before .before .before .before in
-    passing-end (l .loop .inv) (entry l .pre .1 .1)
-    (c .offset-in .ensures)
-    (sym (c .before .before .before .next .ensures) ∙ ap nextOf (c .before .enum-told .given .1))
-
-enum-known-k : tie.Need-enum-known-k Inv-loop μ-loop
-enum-known-k c = c .match .keys2
-
-same-length-2 : tie.Need-same-length-2 Inv-loop μ-loop
-same-length-2 c = let l = c .before .before .before .before in passing-length (l .loop .inv) (entry l .pre .1 .1)
-
-returns-2 : tie.Need-returns-2 Inv-loop μ-loop
-returns-2 c =
-    let l = c .before .before .before .before in
-    passing-refusal (l .loop .inv) (entry l .pre .1 .1)
-    (sym (c .before .before .before .next .ensures) ∙ ap nextOf (c .before .k .given .1))
-
-enum-known-i : tie.Need-enum-known-i Inv-loop μ-loop
-enum-known-i c = c .match .keys3
+-- the next item stands further on
+onward : (c : tie.After-op Inv-loop μ-loop) → let at = c .before .before .i .given .0 .1 .0 .at in (looped c .loop .c .at < at) × (at ≤ length (entry (looped c) .args .format .now))
+onward c = let l = looped c in ahead (tableAt (entry l .args .table .now)) (entry l .args .format .now) (l .loop .c .at) (item c)
 
 read-op-requires : tie.Need-read-op-requires Inv-loop μ-loop
 read-op-requires c κs =
     let l = looped c in
     (l .loop .inv .so-far .stands, valid (tableAt (entry l .args .table .now)) (entry l .args .format .now) (l .loop .c .at) (item c) (entry l .pre .0))
 
-enum-known-k-2 : tie.Need-enum-known-k-2 Inv-loop μ-loop
-enum-known-k-2 c = c .match2 .keys1
-
-same-length-3 : tie.Need-same-length-3 Inv-loop μ-loop
-same-length-3 c =
-    let l = looped (c .before .before .before .before) in
-    passing-length (l .loop .inv) (entry l .pre .1 .1)
-
-returns-3 : tie.Need-returns-3 Inv-loop μ-loop
-returns-3 c =
-    let o = c .before .before .before .before in
-    let l = looped o in
-    passing-refused (l .loop .inv) (entry l .pre .1 .1)
-    (item o) (c .before .before .before .read-op .ensures) (c .before .k2 .given .1)
-
-enum-known-t : tie.Need-enum-known-t Inv-loop μ-loop
-enum-known-t c = c .match2 .keys2
-
-loop-less : tie.Need-loop-less Inv-loop μ-loop
-loop-less c =
-    let o = c .before .before .before .before .before in
-    let l = looped o in
-    let h = ahead (tableAt (entry l .args .table .now)) (entry l .args .format .now) (l .loop .c .at) (item o) in
-    omega arith
-
 loop-again : tie.Need-loop-again Inv-loop μ-loop
 loop-again c =
     let x = c .before .before in
-    let o = x .before .before .before in
-    let l = looped o in
-    passing-set (l .loop .inv) (entry l .pre .1 .1)
-    (item o) (x .before .before .read-op .ensures) (x .t .given .1) (c .parts .ensures)
-
-enum-known-r : tie.Need-enum-known-r Inv-loop μ-loop
-enum-known-r c = c .match2 .keys3
+    let r = x .before .before in
+    passing-set (looped (r .before) .loop .inv) (item (r .before)) (r .read-op .ensures) (x .t .given .1) (c .parts .ensures)
 
 put-reading-requires : tie.Need-put-reading-requires Inv-loop μ-loop
 put-reading-requires c κs =
     let x = c .before .before .before in
-    let o = x .before .before .before in
-    let l = looped o in
-    let s = entry l in
-    passing-room (l .loop .inv) (s .pre .1 .1) (item o) (x .before .before .read-op .ensures) (x .r .given .1) (c .before .if1 .taken) (list-short s)
+    let r = x .before .before in
+    let l = looped (r .before) in
+    passing-room (l .loop .inv) (item (r .before)) (r .read-op .ensures) (x .r .given .1) (c .before .if1 .taken) (list-short (entry l))
 
 size-of-requires : tie.Need-size-of-requires Inv-loop μ-loop
 size-of-requires c κs =
     let x = c .before .before in
-    let o = x .before .before .before in
-    let l = looped o in
-    passing-short (l .loop .inv) (entry l .pre .1 .1) (item o) (x .before .before .read-op .ensures) (x .r .given .1)
-
-sum-requires : tie.Need-sum-requires Inv-loop μ-loop
-sum-requires c κs = c .size-of .ensures .1
-
-loop-less-2 : tie.Need-loop-less-2 Inv-loop μ-loop
-loop-less-2 c =
-    let o = c .before .before .before .before .before .before .before .before in
-    let l = looped o in
-    let h = ahead (tableAt (entry l .args .table .now)) (entry l .args .format .now) (l .loop .c .at) (item o) in
-    omega arith
+    let r = x .before .before in
+    passing-short (looped (r .before) .loop .inv) (item (r .before)) (r .read-op .ensures) (x .r .given .1)
 
 loop-again-2 : tie.Need-loop-again-2 Inv-loop μ-loop
 loop-again-2 c =
     let x = c .before .before .before .before .before in
-    let o = x .before .before .before in
-    let l = looped o in
-    let s = entry l in
     let g = x .before .before .read-op .ensures in
-    passing-more (l .loop .inv) (s .pre .1 .1) (item o) g (x .r .given .1)
+    let o = x .before .before .before in
+    let h = looped o .loop .inv in
+    passing-more h (item o) g (x .r .given .1)
     (⊎-elim
-    (λ w. passing-put (l .loop .inv) (s .pre .1 .1) (item o) g (x .r .given .1) (w .0 .taken) (list-short s) _ (w .5 ∙ w .2 .ensures))
-    (λ w. w .1 ∙ passing-kept (l .loop .inv) (s .pre .1 .1) (item o) g (x .r .given .1) (w .0 .left))
+    (λ w. passing-put h (item o) g (x .r .given .1) (w .0 .taken) (list-short (entry (looped o))) _ (w .5 ∙ w .2 .ensures))
+    (λ w. w .1 ∙ passing-kept h (item o) g (x .r .given .1) (w .0 .left))
     (c .before .before .before .if1 .came))
     (c .before .before .size-of .ensures .0)
     (c .before .sum .ensures)
@@ -158,33 +82,30 @@ loop-again-2 c =
 pub pass-spec : {M : Type 1} → statement M
 pass-spec =
     tie.close
-    (tie.spec
-    Inv-loop
-    μ-loop
+    (tie.spec Inv-loop μ-loop
     (λ c κs. tt)
-    loop-holds
-    next-requires
-    enum-told
+    (λ c. let s = c .before .before .before .before in passing-none _ (s .pre .1 .1) (c .new .ensures) (s .pre .1 .0))
+    (λ c κs. c .before .before .before .before .before .pre .0)
+    (λ c. c .match .keys1)
     (λ c κs. tt)
-    same-length
-    returns
-    enum-known-k
-    same-length-2
-    returns-2
-    enum-known-i
+    (λ c. passing-length (c .before .before .before .before .loop .inv))
+    (λ c. let n = c .before .before .before in passing-end (n .before .loop .inv) (c .offset-in .ensures) (sym (rw (c .before .enum-told .given .1) at (n .next .ensures))))
+    (λ c. c .match .keys2)
+    (λ c. passing-length (c .before .before .before .before .loop .inv))
+    (λ c. let n = c .before .before .before in passing-refusal (n .before .loop .inv) (sym (rw (c .before .k .given .1) at (n .next .ensures))))
+    (λ c. c .match .keys3)
     (λ c κs. tt)
     read-op-requires
-    enum-known-k-2
-    same-length-3
-    returns-3
-    enum-known-t
+    (λ c. c .match2 .keys1)
+    (λ c. passing-length (looped (c .before .before .before .before) .loop .inv))
+    (λ c. let r = c .before .before .before in passing-refused (looped (r .before) .loop .inv) (item (r .before)) (r .read-op .ensures) (c .before .k2 .given .1))
+    (λ c. c .match2 .keys2)
     (λ c κs. tt)
-    loop-less
+    (λ c. omega (arith, onward (c .before .before .before .before .before)))
     loop-again
-    enum-known-r
-    put-reading-requires
-    size-of-requires
-    sum-requires
+    (λ c. c .match2 .keys3)
+    put-reading-requires size-of-requires
+    (λ c κs. c .size-of .ensures .1)
     (λ c κs. tt)
-    loop-less-2
+    (λ c. omega (arith, onward (c .before .before .before .before .before .before .before .before)))
     loop-again-2)

@@ -1,26 +1,13 @@
 -- `size_of` meets its contract: 11 for a number, 3 more than its length for a text.
 use native.Mathlib.Omega.{arith}
-use mathlib.Core.Path.{sym, ap}
-use Rattle.read.specs.Runs.{sizeOf}
-use Rattle.read.proofs.Sizes.{text-short}
 use borrow.Author.Needs.{needs}
 use Rattle.read.proofs.pass.size_of.Statement.{statement}
 use Rattle.read.proofs.pass.size_of.Tie as tie
 
-add-result : tie.Need-add-result
-add-result c = omega (arith, text-short (c .before .r .given .1) (c .before .before .before .pre))
-
-returns-3 : tie.Need-returns-3
-returns-3 c = (ap sizeOf (sym (c .before .r .given .1)), omega (arith, text-short (c .before .r .given .1) (c .before .before .before .pre)))
-
 pub size-of-spec : {M : Type 1} → statement M
 size-of-spec =
     tie.close
-    (tie.spec
-    (λ c. search needs)
-    (λ c. search needs)
-    (λ c. search needs)
-    add-result
-    (λ c. search needs)
-    (λ c. search needs)
-    returns-3)
+    (tie.spec (λ c. search needs) (λ c. search needs) (λ c. search needs)
+    (λ c. omega (arith, rw (c .before .r .given .1) at (c .before .before .before .pre)))
+    (λ c. search needs) (λ c. search needs)
+    (λ c. (rw (c .before .r .given .1), omega (arith, rw (c .before .r .given .1) at (c .before .before .before .pre)))))
