@@ -22,7 +22,7 @@ WORD = 1 << 64
 
 def line(group, size=0, order="<", answer=True, a=0, b=0, c=0, data=None):
     data = b.to_bytes(8, "big") + c.to_bytes(8, "big") if data is None else data.ljust(16, b"\0")
-    return f"{group} {size:02x} {order} {'=' if answer else '!'} {a % WORD:016x} {data.hex()}\n"
+    return f"{group} {order} {'=' if answer else '!'} {size:02X} {a % WORD:016X} {data.hex().upper()}\n"
 
 
 # ---- floats
@@ -295,7 +295,7 @@ def main():
     if sys.argv[1:] == ["--answers"]:
         sys.stdout.write("".join(f"{name} {len(lines)} ok\n" for name, lines in made))
     else:
-        sys.stdout.write("".join(f"# {name}".ljust(58) + "\n" + "".join(lines) for name, lines in made))
+        sys.stdout.write("".join(f"#v {name} \n" + "".join(lines) for name, lines in made))
 
 
 main()

@@ -1,0 +1,60 @@
+// Recorded answers of the original, and ours to the same calls. A line is a case:
+//   m FORMAT = SIZE                          measuring
+//   w FORMAT / LIST = RECORD                 writing
+//   r FORMAT / DATA / START = LIST / NEXT    reading
+// A refusal has ! in place of = and what follows it. `compare/run record FILE` makes the lines.
+use crate::answers::Answer;
+use crate::answers::called;
+use crate::answers::size;
+use crate::parts::FILL;
+use crate::parts::front;
+use crate::reader::behind;
+use crate::reader::bytes;
+use crate::reader::number;
+use crate::reader::peek;
+
+// The mark of an answer, and of a refusal.
+fn mark(refusal: u8) -> u8 {
+    if refusal == 0 { b'=' } else { b'!' }
+}
+
+// Whether a number stands behind a mark at a place, and ends the line; 0 where there is no mark.
+fn has_number(s: &[u8], at: usize, mark: u8, x: u64) -> bool {
+    let n = number(s, at, mark, 0);
+    (n.value == x) & (peek(s, n.at) == b'\n')
+}
+
+// Whether the answer at a place is ours: the same bytes at the front of the buffer, and no other byte changed; the same
+// next position, if there is one. Behind the mark of a refusal stands nothing.
+fn is_answer(s: &[u8], at: usize, a: Answer, out: &[u8]) -> bool {
+    let mut expected = [FILL; 1024];
+    let e = bytes(s, behind(at), &mut expected);
+    let marked = peek(s, at) == mark(a.refusal);
+    marked
+        & (e.n as u64 == a.length)
+        & has_number(s, e.at, b'/', a.next)
+        & check::same(out, &expected)
+}
+
+// Writing or reading, with a list or data that stands at a place.
+fn is_called(s: &[u8], at: usize, call: u8, format: &[u8]) -> bool {
+    let mut list = [0u8; 1024];
+    let l = bytes(s, at, &mut list);
+    let start = number(s, l.at, b'/', 1);
+    let mut out = [FILL; 1024];
+    let a = called(call, format, front(&list, l.n), start.value, &mut out);
+    is_answer(s, start.at, a, &out)
+}
+
+// Whether our answer to a line's case is the recorded one.
+pub fn is_same(s: &[u8]) -> bool {
+    let mut buffer = [0u8; 1024];
+    let call = peek(s, 0);
+    let f = bytes(s, 1, &mut buffer);
+    let format = front(&buffer, f.n);
+    if call == b'm' {
+        let a = size(format);
+        return has_number(s, f.at, mark(a.refusal), a.length);
+    }
+    is_called(s, behind(f.at), call, format)
+}
