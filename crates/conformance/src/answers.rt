@@ -57,8 +57,8 @@ pub fn unpack(format: &[u8], data: &[u8], start: u64, out: &mut [u8]) -> Answer 
 
 // Writing, or reading from a start.
 pub fn called(call: u8, format: &[u8], list: &[u8], start: u64, out: &mut [u8]) -> Answer {
-    if call == b'w' {
-        return pack(format, list, out);
+    match call {
+        b'w' => pack(format, list, out),
+        _ => unpack(format, list, start, out),
     }
-    unpack(format, list, start, out)
 }

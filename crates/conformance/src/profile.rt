@@ -18,8 +18,8 @@ use crate::parts::behind_word;
 use crate::parts::front;
 use crate::parts::room;
 use crate::random::random;
-use crate::reader::behind;
-use crate::reader::bytes;
+use crate::reader::Arguments;
+use crate::reader::take_arguments;
 use crate::reader::number;
 use crate::reader::peek;
 use crate::show::is_filled;
@@ -94,7 +94,10 @@ fn call_into(call: u8, format: &[u8], list: &[u8], start: u64, out: &mut [u8], s
 
 // The mark before a start: writing has none.
 fn start_mark(call: u8) -> u8 {
-    if call == b'r' { b'/' } else { 0 }
+    match call {
+        b'r' => b'/',
+        _ => 0,
+    }
 }
 
 fn print_call(call: u8, format: &[u8], list: &[u8], s: &[u8], at: usize) {
@@ -138,29 +141,16 @@ fn state_of(s: &[u8], at: usize) -> State {
     align::state(big.value > 0, limit.value, length.value)
 }
 
-// Answers a call with a list or data, the rest of whose line stands at a place.
-fn answer_list(call: u8, format: &[u8], s: &[u8], at: usize, state: State) -> State {
-    let mut buffer = room(0);
-    let l = bytes(s, behind(at), &mut buffer);
-    let list = front(&buffer, l.n);
-    match call {
-        b'f' => continued(format, list, start()),
-        b'n' => continued(format, list, state),
-        _ => {
-            print_call(call, format, list, s, l.at);
-            state
-        }
-    }
-}
-
-// Answers a call on a format.
-fn answer_format(call: u8, format: &[u8], s: &[u8], at: usize, state: State) -> State {
+// Answers a call on a format and a list or data, whose line goes on at two places behind them.
+fn answered(call: u8, format: &[u8], list: &[u8], s: &[u8], a: Arguments, state: State) -> State {
     match call {
         b'm' => print_answer(size(format)),
-        b'b' => print_answer(bound(format, number(s, at, b'/', 0).value)),
-        b's' => return state_of(s, at),
-        b'a' => random(format, s, at),
-        _ => return answer_list(call, format, s, at, state),
+        b'b' => print_answer(bound(format, number(s, a.behind_format, b'/', 0).value)),
+        b's' => return state_of(s, a.behind_format),
+        b'a' => random(format, s, a.behind_format),
+        b'f' => return continued(format, list, start()),
+        b'n' => return continued(format, list, state),
+        _ => print_call(call, format, list, s, a.at),
     }
     state
 }
@@ -170,8 +160,9 @@ pub fn print_profile(s: &[u8], state: State) -> State {
     print(s);
     let call = behind_word(s, 0);
     let mut format = room(0);
-    let f = bytes(s, behind_word(s, call), &mut format);
-    let next = answer_format(peek(s, call), front(&format, f.n), s, f.at, state);
+    let mut list = room(0);
+    let a = take_arguments(s, behind_word(s, call), &mut format, &mut list);
+    let next = answered(peek(s, call), front(&format, a.format), front(&list, a.list), s, a, state);
     print(b"\n");
     next
 }

@@ -33,8 +33,14 @@ fn pick(alphabet: &[u8], x: u64) -> u8 {
 // Where the value that an option takes stands in VALUES: a text, none, or an integer.
 fn place_of(option: u8) -> usize {
     match option {
-        b'z' | b's' => 0,
-        b'<' | b'>' | b'=' | b'!' | b' ' | b'x' => 10,
+        b'z' => 0,
+        b's' => 0,
+        b'<' => 10,
+        b'>' => 10,
+        b'=' => 10,
+        b'!' => 10,
+        b' ' => 10,
+        b'x' => 10,
         _ => 11,
     }
 }
@@ -69,44 +75,43 @@ fn draw(alphabet: &[u8], seed: u64, format: &mut [u8], list: &mut [u8]) -> Drawn
     Drawn { state, n }
 }
 
-// Whether a list's length is within a bound.
-fn is_within(n: u64, format: &[u8], data_length: u64) -> bool {
-    let b = bound(format, data_length);
-    (b.refusal == 0) & (n <= b.length)
-}
-
-// Whether a record is read to its end, within the bound, and its values write it again.
-fn is_read_back(format: &[u8], record: &[u8]) -> bool {
-    let mut list = room(FILL);
+// Whether a list writes a record.
+fn writes(format: &[u8], list: &[u8], record: &[u8]) -> bool {
     let mut out = room(FILL);
-    let n = record.len() as u64;
-    let r = unpack(format, record, 1, &mut list);
-    let w = pack(format, front(&list, r.length as usize), &mut out);
-    (r.next == std::num::wrapping_add_u64(n, 1))
-        & is_within(r.length, format, n)
-        & (w.refusal == 0)
-        & check::same(front(&out, w.length as usize), record)
+    let w = pack(format, list, &mut out);
+    (w.refusal == 0) & check::same(front(&out, w.length as usize), record)
 }
 
-// Whether reading zeros gives a list within the bound, or refuses, and changes no other byte.
-fn is_read(format: &[u8]) -> bool {
-    let data = room(0);
+// The position that reading data from its start ends at, 0 where reading refuses. The greatest number where the list is not
+// within the bound, does not write again what was read, or a byte behind it changed.
+fn end_of_reading(format: &[u8], data: &[u8]) -> u64 {
     let mut list = room(FILL);
-    let r = unpack(format, &data, 1, &mut list);
-    let fits = (r.refusal > 0) | is_within(r.length, format, 70000);
-    fits & is_filled(&list, r.length as usize, FILL)
+    let r = unpack(format, data, 1, &mut list);
+    let b = bound(format, data.len() as u64);
+    let values = front(&list, r.length as usize);
+    let read = front(data, std::num::wrapping_sub_u64(r.next, 1) as usize);
+    let right = (b.refusal == 0) & (r.length <= b.length) & writes(format, values, read);
+    if (right | (r.refusal > 0)) & is_filled(&list, values.len(), FILL) {
+        return r.next;
+    }
+    u64::MAX
 }
 
-// Whether what measuring and reading say agrees with what writing answered. A format that writing refuses with k is
-// refused so by the bound, and by measuring unless a text comes before: the numbers up to 8 are about the format alone.
+// Whether reading zeros is right.
+fn reads_zeros(format: &[u8]) -> bool {
+    let data = room(0);
+    end_of_reading(format, &data) <= 70001
+}
+
+// Whether the other calls agree with what writing and measuring answered. A format that writing refuses with k is refused
+// so by the bound, and by measuring unless a text comes before: the numbers up to 8 are about the format alone. A record is
+// as long as is measured, and read to its end.
 fn agrees(format: &[u8], record: &[u8], w: Answer, m: Answer) -> bool {
     let k = w.refusal;
-    if k > 0 {
-        let b = bound(format, 70000);
-        return (k > 8) | ((b.refusal == k) & ((m.refusal == k) | (m.refusal == 10)));
-    }
-    let measured = (m.refusal == 0) & (m.length == w.length);
-    (measured | (m.refusal == 10)) & is_read_back(format, record)
+    let b = bound(format, 70000);
+    let measured = (m.refusal == 10) | ((m.refusal == k) & (m.length == w.length));
+    let ends = end_of_reading(format, record) == std::num::wrapping_add_u64(w.length, 1);
+    ((k > 8) | ((b.refusal == k) & measured)) & ((k > 0) | ends)
 }
 
 // The state of the generator; how many formats were measured and written, and for how many the answers disagree with each
@@ -124,7 +129,7 @@ fn counted(format: &[u8], list: &[u8], t: Tally) -> Tally {
     let w = pack(format, list, &mut out);
     let m = size(format);
     let end = w.length as usize;
-    let agree = is_read(format) & agrees(format, front(&out, end), w, m) & is_filled(&out, end, FILL);
+    let agree = reads_zeros(format) & agrees(format, front(&out, end), w, m) & is_filled(&out, end, FILL);
     Tally {
         state: t.state,
         measured: std::num::wrapping_add_u64(t.measured, (m.refusal == 0) as u64),

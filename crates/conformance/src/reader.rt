@@ -23,11 +23,6 @@ fn digit(b: u8) -> u64 {
     find(b"0123456789ABCDEF", 0, 16, b) as u64
 }
 
-// Ten times a number, and a digit.
-fn with_digit(x: u64, d: u64) -> u64 {
-    std::num::wrapping_add_u64(std::num::wrapping_add_u64(x << 3, x << 1), d)
-}
-
 // A number, and the place behind it.
 pub struct Numeral {
     pub value: u64,
@@ -43,7 +38,7 @@ fn digits_at(s: &[u8], at: usize) -> Numeral {
         if d > 9 {
             return Numeral { value, at: i };
         }
-        value = with_digit(value, d);
+        value = std::num::wrapping_add_u64(std::num::wrapping_add_u64(value << 3, value << 1), d);
         i += 1;
     }
     Numeral { value, at: i }
@@ -102,15 +97,14 @@ fn with_byte(mut c: Reader, b: u8, at: usize) -> Reader {
     c
 }
 
-// What a byte between parts begins.
-fn between(mut c: Reader, s: &[u8], b: u8) -> Reader {
-    let next = behind(c.at);
+// What a byte between parts begins; behind it may stand a number.
+fn between(mut c: Reader, b: u8, n: Numeral) -> Reader {
     c.start = c.at;
     c.kind = b;
     match b {
-        b' ' | b'"' => c.at = next,
+        b' ' => c.at = behind(c.at),
+        b'"' => c.at = behind(c.at),
         b'i' => {
-            let n = number_at(s, next);
             c.word = n.value;
             c.at = n.at;
             c.kind = 11;
@@ -122,24 +116,25 @@ fn between(mut c: Reader, s: &[u8], b: u8) -> Reader {
 
 fn in_text(mut c: Reader, b: u8) -> Reader {
     let next = behind(c.at);
-    if b == b'"' {
-        c.at = next;
-        c.kind = 0;
-        return c;
+    match b {
+        b'"' => {
+            c.at = next;
+            c.kind = 0;
+            c
+        }
+        _ => with_byte(c, b, next),
     }
-    with_byte(c, b, next)
 }
 
 // The two digits of a byte, or the end of the digits.
-fn in_digits(mut c: Reader, s: &[u8], b: u8) -> Reader {
+fn in_digits(mut c: Reader, b: u8, low: u8) -> Reader {
     let high = digit(b);
     if high > 15 {
         c.kind = 0;
         return c;
     }
-    let next = behind(c.at);
-    let byte = (high << 4) | digit(peek(s, next));
-    with_byte(c, (byte % 256) as u8, behind(next))
+    let byte = (high << 4) | digit(low);
+    with_byte(c, (byte % 256) as u8, behind(behind(c.at)))
 }
 
 // The next byte of an integer's field: a tag and a length in three bytes, and the integer in eight.
@@ -152,12 +147,11 @@ fn in_field(mut c: Reader) -> Reader {
 }
 
 // Behind a part: it is read again, as often as the number behind a `*` says.
-fn behind_part(mut c: Reader, s: &[u8], b: u8) -> Reader {
+fn behind_part(mut c: Reader, b: u8, n: Numeral) -> Reader {
     c.kind = b' ';
     if b != b'*' {
         return c;
     }
-    let n = number_at(s, behind(c.at));
     let times = std::num::wrapping_add_u64(c.times, 1);
     if times < n.value {
         c.times = times;
@@ -175,12 +169,13 @@ fn behind_part(mut c: Reader, s: &[u8], b: u8) -> Reader {
 //   0 behind a part      '.' at the end
 fn step(c: Reader, s: &[u8]) -> Reader {
     let b = peek(s, c.at);
+    let next = behind(c.at);
     let kind = c.kind;
     match kind {
-        b' ' => between(c, s, b),
+        b' ' => between(c, b, number_at(s, next)),
         b'"' => in_text(c, b),
-        b'h' => in_digits(c, s, b),
-        0 => behind_part(c, s, b),
+        b'h' => in_digits(c, b, peek(s, next)),
+        0 => behind_part(c, b, number_at(s, next)),
         _ => in_field(c),
     }
 }
@@ -215,4 +210,24 @@ pub fn bytes(s: &[u8], at: usize, out: &mut [u8]) -> Reader {
         turns -= 1;
     }
     c
+}
+
+// The arguments of a call: how many bytes its format has, and its list or data, and the places behind them.
+pub struct Arguments {
+    pub format: usize,
+    pub list: usize,
+    pub behind_format: usize,
+    pub at: usize,
+}
+
+// Puts the bytes of a format that stands at a place at a buffer's front, and those behind it and a mark at another's.
+pub fn take_arguments(s: &[u8], at: usize, format: &mut [u8], list: &mut [u8]) -> Arguments {
+    let f = bytes(s, at, format);
+    let l = bytes(s, behind(f.at), list);
+    Arguments {
+        format: f.n,
+        list: l.n,
+        behind_format: f.at,
+        at: l.at,
+    }
 }

@@ -8,6 +8,7 @@ use crate::answers::called;
 use crate::answers::size;
 use crate::parts::FILL;
 use crate::parts::front;
+use crate::reader::take_arguments;
 use crate::reader::behind;
 use crate::reader::bytes;
 use crate::reader::number;
@@ -15,7 +16,10 @@ use crate::reader::peek;
 
 // The mark of an answer, and of a refusal.
 fn mark(refusal: u8) -> u8 {
-    if refusal == 0 { b'=' } else { b'!' }
+    match refusal {
+        0 => b'=',
+        _ => b'!',
+    }
 }
 
 // Whether a number stands behind a mark at a place, and ends the line; 0 where there is no mark.
@@ -36,25 +40,19 @@ fn is_answer(s: &[u8], at: usize, a: Answer, out: &[u8]) -> bool {
         & check::same(out, &expected)
 }
 
-// Writing or reading, with a list or data that stands at a place.
-fn is_called(s: &[u8], at: usize, call: u8, format: &[u8]) -> bool {
-    let mut list = [0u8; 1024];
-    let l = bytes(s, at, &mut list);
-    let start = number(s, l.at, b'/', 1);
-    let mut out = [FILL; 1024];
-    let a = called(call, format, front(&list, l.n), start.value, &mut out);
-    is_answer(s, start.at, a, &out)
-}
-
 // Whether our answer to a line's case is the recorded one.
 pub fn is_same(s: &[u8]) -> bool {
     let mut buffer = [0u8; 1024];
+    let mut list = [0u8; 1024];
+    let g = take_arguments(s, 1, &mut buffer, &mut list);
+    let format = front(&buffer, g.format);
     let call = peek(s, 0);
-    let f = bytes(s, 1, &mut buffer);
-    let format = front(&buffer, f.n);
     if call == b'm' {
-        let a = size(format);
-        return has_number(s, f.at, mark(a.refusal), a.length);
+        let m = size(format);
+        return has_number(s, g.behind_format, mark(m.refusal), m.length);
     }
-    is_called(s, behind(f.at), call, format)
+    let start = number(s, g.at, b'/', 1);
+    let mut out = [FILL; 1024];
+    let a = called(call, format, front(&list, g.list), start.value, &mut out);
+    is_answer(s, start.at, a, &out)
 }
