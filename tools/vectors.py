@@ -1,15 +1,15 @@
 #!/usr/bin/env python3
-"""Makes the vectors that the program `vectors` runs, and what it must write.
+"""Makes the vectors that the program `conformance` runs, and what it must write of them.
 
-    python3 tools/vectors.py > crates/vectors/stdin
-    python3 tools/vectors.py --answers > crates/vectors/stdout
+    python3 tools/vectors.py | tools/section v      puts them into crates/conformance/stdin
+    python3 tools/vectors.py --answers              the first lines of crates/conformance/stdout
 
 Nothing here is shared with the crates: integers go by int.to_bytes, floats by struct and by exact fractions, the rest
 by document 01's words.
 
-Each line has 59 bytes. One that begins with # names a group. A vector is the group's letter, a size in two hexadecimal
-digits, the byte order (< or >), whether an answer is expected (=) or a refusal (!), a word of 16 digits, and 32 digits,
-which are 16 bytes or two words.
+A line that begins with #v names a group. A vector is the group's letter, the byte order (< or >), whether an answer is
+expected (=) or a refusal (!), and in hexadecimal a size in two digits, a word of 16 digits, and 32 digits, which are 16
+bytes or two words.
 """
 import random
 import struct
