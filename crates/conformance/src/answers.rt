@@ -38,18 +38,18 @@ pub fn bound(format: &[u8], data_length: u64) -> Answer {
     of_measured(list_bound(format, data_length))
 }
 
-pub fn pack(format: &[u8], list: &[u8], out: &mut [u8]) -> Answer {
-    match string_pack(format, list, out) {
+fn of_packed(p: Packed) -> Answer {
+    match p {
         Packed::Length(n) => answer_of(0, n, 0),
         Packed::Refused(k) => answer_of(k, 0, 0),
     }
 }
 
-pub fn unpack(format: &[u8], data: &[u8], start: u64, out: &mut [u8]) -> Answer {
-    match string_unpack(format, data, to_signed(start), out) {
-        Unpacking::Unpacked(u) => {
-            let next = u.next;
-            answer_of(0, u.length, next.0)
+fn of_unpacked(u: Unpacking) -> Answer {
+    match u {
+        Unpacking::Unpacked(r) => {
+            let next = r.next;
+            answer_of(0, r.length, next.0)
         }
         Unpacking::Refused(k) => answer_of(k, 0, 0),
     }
@@ -58,7 +58,7 @@ pub fn unpack(format: &[u8], data: &[u8], start: u64, out: &mut [u8]) -> Answer 
 // Writing, or reading from a start.
 pub fn called(call: u8, format: &[u8], list: &[u8], start: u64, out: &mut [u8]) -> Answer {
     match call {
-        b'w' => pack(format, list, out),
-        _ => unpack(format, list, start, out),
+        b'w' => of_packed(string_pack(format, list, out)),
+        _ => of_unpacked(string_unpack(format, list, to_signed(start), out)),
     }
 }

@@ -37,7 +37,10 @@ fn next(s: &[u8], at: usize, end: usize, mut g: Group) -> Group {
     let line = part(s, at, end);
     if peek(line, 0) == b'#' {
         report(s, g);
-        return heading(line, group_at(peek(line, 1), std::num::wrapping_add_usize(at, 3), end));
+        return heading(
+            line,
+            group_at(peek(line, 1), std::num::wrapping_add_usize(at, 3), end),
+        );
     }
     let kind = g.kind;
     match kind {

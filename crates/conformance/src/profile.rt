@@ -19,9 +19,9 @@ use crate::parts::front;
 use crate::parts::room;
 use crate::random::random;
 use crate::reader::Arguments;
-use crate::reader::take_arguments;
 use crate::reader::number;
 use crate::reader::peek;
+use crate::reader::take_arguments;
 use crate::show::is_filled;
 use crate::show::print;
 use crate::show::print_bytes;
@@ -80,12 +80,19 @@ fn print_result(call: u8, out: &[u8], a: Answer) {
     let end = a.length as usize;
     print_given(call, front(out, end), a);
     if !is_filled(out, end, FILL) {
-        print(b"; a byte behind it changed");
+        print(b"; changed");
     }
 }
 
 // Writing or reading into the first bytes of a buffer.
-fn call_into(call: u8, format: &[u8], list: &[u8], start: u64, out: &mut [u8], size: usize) -> Answer {
+fn call_into(
+    call: u8,
+    format: &[u8],
+    list: &[u8],
+    start: u64,
+    out: &mut [u8],
+    size: usize,
+) -> Answer {
     if size < out.len() {
         return called(call, format, list, start, &mut out[0..size]);
     }
@@ -104,7 +111,14 @@ fn print_call(call: u8, format: &[u8], list: &[u8], s: &[u8], at: usize) {
     let start = number(s, at, start_mark(call), 1);
     let size = number(s, start.at, b'/', 70000);
     let mut out = room(FILL);
-    let a = call_into(call, format, list, start.value, &mut out, size.value as usize);
+    let a = call_into(
+        call,
+        format,
+        list,
+        start.value,
+        &mut out,
+        size.value as usize,
+    );
     print_result(call, &out, a);
 }
 
@@ -162,7 +176,14 @@ pub fn print_profile(s: &[u8], state: State) -> State {
     let mut format = room(0);
     let mut list = room(0);
     let a = take_arguments(s, behind_word(s, call), &mut format, &mut list);
-    let next = answered(peek(s, call), front(&format, a.format), front(&list, a.list), s, a, state);
+    let next = answered(
+        peek(s, call),
+        front(&format, a.format),
+        front(&list, a.list),
+        s,
+        a,
+        state,
+    );
     print(b"\n");
     next
 }

@@ -1,9 +1,8 @@
 // Formats of 4,096 random bytes, through every call.
 use crate::answers::Answer;
 use crate::answers::bound;
-use crate::answers::pack;
+use crate::answers::called;
 use crate::answers::size;
-use crate::answers::unpack;
 use crate::parts::FILL;
 use crate::parts::front;
 use crate::parts::room;
@@ -78,7 +77,7 @@ fn draw(alphabet: &[u8], seed: u64, format: &mut [u8], list: &mut [u8]) -> Drawn
 // Whether a list writes a record.
 fn writes(format: &[u8], list: &[u8], record: &[u8]) -> bool {
     let mut out = room(FILL);
-    let w = pack(format, list, &mut out);
+    let w = called(b'w', format, list, 0, &mut out);
     (w.refusal == 0) & check::same(front(&out, w.length as usize), record)
 }
 
@@ -86,7 +85,7 @@ fn writes(format: &[u8], list: &[u8], record: &[u8]) -> bool {
 // within the bound, does not write again what was read, or a byte behind it changed.
 fn end_of_reading(format: &[u8], data: &[u8]) -> u64 {
     let mut list = room(FILL);
-    let r = unpack(format, data, 1, &mut list);
+    let r = called(b'r', format, data, 1, &mut list);
     let b = bound(format, data.len() as u64);
     let values = front(&list, r.length as usize);
     let read = front(data, std::num::wrapping_sub_u64(r.next, 1) as usize);
@@ -126,10 +125,12 @@ struct Tally {
 // One format more.
 fn counted(format: &[u8], list: &[u8], t: Tally) -> Tally {
     let mut out = room(FILL);
-    let w = pack(format, list, &mut out);
+    let w = called(b'w', format, list, 0, &mut out);
     let m = size(format);
     let end = w.length as usize;
-    let agree = reads_zeros(format) & agrees(format, front(&out, end), w, m) & is_filled(&out, end, FILL);
+    let agree = reads_zeros(format)
+        & agrees(format, front(&out, end), w, m)
+        & is_filled(&out, end, FILL);
     Tally {
         state: t.state,
         measured: std::num::wrapping_add_u64(t.measured, (m.refusal == 0) as u64),

@@ -8,11 +8,11 @@ use crate::answers::called;
 use crate::answers::size;
 use crate::parts::FILL;
 use crate::parts::front;
-use crate::reader::take_arguments;
 use crate::reader::behind;
 use crate::reader::bytes;
 use crate::reader::number;
 use crate::reader::peek;
+use crate::reader::take_arguments;
 
 // The mark of an answer, and of a refusal.
 fn mark(refusal: u8) -> u8 {
