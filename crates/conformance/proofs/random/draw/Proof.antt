@@ -1,6 +1,6 @@
 -- `draw` ends with the format: each turn fills one of its bytes. Format and list keep their lengths.
 use Prim.Native.Nat.{_-_}
-use mathlib.Core.Path.{_≡_}
+use mathlib.Core.Path.{_≡_, refl}
 use lib.ListN.{length}
 use borrow.Author.Needs.{needs}
 use Rattle.conformance.proofs.random.draw.Statement.{statement}
@@ -18,14 +18,14 @@ draw-spec =
     (tie.spec
     Inv-loop
     μ-loop
+    (λ c. (refl, refl))
+    (λ c κs. tt)
+    (λ c κs. tt)
     (λ c. search needs)
-    (λ c κs. search needs)
-    (λ c κs. search needs)
-    (λ c. search needs)
-    (λ c κs. search needs)
-    (λ c. search needs)
-    (λ c. search needs)
+    (λ c κs. tt)
     (λ c. search needs)
     (λ c. search needs)
     (λ c. search needs)
-    (λ c. search needs))
+    (λ c. c .before .loop .inv .0)
+    (λ c. c .before .loop .inv .1)
+    (λ c. tt))
