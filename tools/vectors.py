@@ -1,15 +1,15 @@
 #!/usr/bin/env python3
-"""Makes the vectors that the program `vectors` runs, and what it must write.
+"""Makes the vectors that the program `conformance` runs, and what it must write of them.
 
-    python3 tools/vectors.py > crates/vectors/stdin
-    python3 tools/vectors.py --answers > crates/vectors/stdout
+    python3 tools/vectors.py | tools/section v      puts them into crates/conformance/stdin
+    python3 tools/vectors.py --answers              the first lines of crates/conformance/stdout
 
 Nothing here is shared with the crates: integers go by int.to_bytes, floats by struct and by exact fractions, the rest
 by document 01's words.
 
-Each line has 59 bytes. One that begins with # names a group. A vector is the group's letter, a size in two hexadecimal
-digits, the byte order (< or >), whether an answer is expected (=) or a refusal (!), a word of 16 digits, and 32 digits,
-which are 16 bytes or two words.
+A line that begins with #v names a group. A vector is the group's letter, the byte order (< or >), whether an answer is
+expected (=) or a refusal (!), and in hexadecimal a size in two digits, a word of 16 digits, and 32 digits, which are 16
+bytes or two words.
 """
 import random
 import struct
@@ -22,7 +22,7 @@ WORD = 1 << 64
 
 def line(group, size=0, order="<", answer=True, a=0, b=0, c=0, data=None):
     data = b.to_bytes(8, "big") + c.to_bytes(8, "big") if data is None else data.ljust(16, b"\0")
-    return f"{group} {size:02x} {order} {'=' if answer else '!'} {a % WORD:016x} {data.hex()}\n"
+    return f"{group} {order} {'=' if answer else '!'} {size:02X} {a % WORD:016X} {data.hex().upper()}\n"
 
 
 # ---- floats
@@ -295,7 +295,7 @@ def main():
     if sys.argv[1:] == ["--answers"]:
         sys.stdout.write("".join(f"{name} {len(lines)} ok\n" for name, lines in made))
     else:
-        sys.stdout.write("".join(f"# {name}".ljust(58) + "\n" + "".join(lines) for name, lines in made))
+        sys.stdout.write("".join(f"#v {name} \n" + "".join(lines) for name, lines in made))
 
 
 main()

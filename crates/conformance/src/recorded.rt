@@ -1,0 +1,58 @@
+// Recorded answers of the original, and ours to the same calls. A line is a case:
+//   m FORMAT = SIZE                          measuring
+//   w FORMAT / LIST = RECORD                 writing
+//   r FORMAT / DATA / START = LIST / NEXT    reading
+// A refusal has ! in place of = and what follows it. `compare/run record FILE` makes the lines.
+use crate::answers::Answer;
+use crate::answers::called;
+use crate::answers::size;
+use crate::parts::FILL;
+use crate::parts::front;
+use crate::reader::behind;
+use crate::reader::bytes;
+use crate::reader::number;
+use crate::reader::peek;
+use crate::reader::take_arguments;
+
+// The mark of an answer, and of a refusal.
+fn mark(refusal: u8) -> u8 {
+    match refusal {
+        0 => b'=',
+        _ => b'!',
+    }
+}
+
+// Whether a number stands behind a mark at a place, and ends the line; 0 where there is no mark.
+fn has_number(s: &[u8], at: usize, mark: u8, x: u64) -> bool {
+    let n = number(s, at, mark, 0);
+    (n.value == x) & (peek(s, n.at) == b'\n')
+}
+
+// Whether the answer at a place is ours: the same bytes at the front of the buffer, and no other byte changed; the same
+// next position, if there is one. Behind the mark of a refusal stands nothing.
+fn is_answer(s: &[u8], at: usize, a: Answer, out: &[u8]) -> bool {
+    let mut expected = [FILL; 1024];
+    let e = bytes(s, behind(at), &mut expected);
+    let marked = peek(s, at) == mark(a.refusal);
+    marked
+        & (e.n as u64 == a.length)
+        & has_number(s, e.at, b'/', a.next)
+        & check::same(out, &expected)
+}
+
+// Whether our answer to a line's case is the recorded one.
+pub fn is_same(s: &[u8]) -> bool {
+    let mut buffer = [0u8; 1024];
+    let mut list = [0u8; 1024];
+    let g = take_arguments(s, 1, &mut buffer, &mut list);
+    let format = front(&buffer, g.format);
+    let call = peek(s, 0);
+    if call == b'm' {
+        let m = size(format);
+        return has_number(s, g.behind_format, mark(m.refusal), m.length);
+    }
+    let start = number(s, g.at, b'/', 1);
+    let mut out = [FILL; 1024];
+    let a = called(call, format, front(&list, g.list), start.value, &mut out);
+    is_answer(s, start.at, a, &out)
+}
