@@ -15,10 +15,11 @@ use Rattle.definition.specs.Ops.{ops}
 use Rattle.definition.specs.Writing.{Cell, pad, byte, zeroed}
 use Rattle.definition.specs.Reading.{offset, positionOf}
 use Rattle.definition.specs.Calls.{Call, call, stringPacksize, stringPack, stringUnpack}
-use Rattle.definition.specs.Claims.{LongEnough, gives, written, packedBytes, keptList, Holds, hasOpen, Readable, Agreement}
+use Rattle.definition.specs.Kept.{written, keptList}
+use Rattle.laws.specs.Claims.{LongEnough, gives, packedBytes, Holds, hasOpen, Readable, Agreement}
 use Rattle.definition.specs.declared.Unpacked.{Unpacked}
-use Rattle.definition.proofs.Answers.{never, same, same-number}
-use Rattle.definition.proofs.Demand.{demand}
+use Rattle.laws.proofs.Answers.{never, same, same-number}
+use Rattle.laws.proofs.Demand.{demand}
 use Rattle.measure.specs.Measured.{measuredOf}
 use Rattle.measure.specs.declared.size.Measured.{Measured}
 use Rattle.measure.specs.declared.size.Measured.the-variants as Measured

@@ -1,5 +1,4 @@
-// What is claimed of the calls, as contracts: the claims themselves, why they have their premises, and what they say of calls that
-// are made one after the other.
+// What the claims say of calls that are made one after the other, as contracts.
 use measure::Measured;
 use measure::string_packsize;
 use read::Unpacking;
@@ -8,18 +7,7 @@ use write::Packed;
 use write::string_pack;
 ghost use mathlib.Core.Path.{_≡_};
 ghost use mathlib.Core.Bool.{true};
-ghost use Rattle.definition.specs.Claims.{Demand, Continuing, Returned, Rooms, Numbered, Bounded, Decimals, Readable};
-ghost use Rattle.definition.specs.Premises.{Needed, Divided};
-
-// The claims, about the definitions that the contracts of the calls name.
-pub fn claims()
-    ensures { λ _. ⌜ Demand × Continuing × Returned × Rooms × Numbered × Bounded × Decimals ⌝ }
-{}
-
-// An example for each of their premises, and one of a format that is divided into parts.
-pub fn examples()
-    ensures { λ _. ⌜ Needed × Divided ⌝ }
-{}
+ghost use Rattle.laws.specs.Claims.{Readable};
 
 // Writes a record, and says whether it is as long as its format measures, or measuring gives 10: it is so, always.
 pub fn size_agrees(format: &[u8], list: &[u8], out: &mut [u8]) -> bool

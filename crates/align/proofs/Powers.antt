@@ -12,7 +12,7 @@ use lib.Dec.{eqb, lit≤}
 use borrow.Author.Tests.{ne-eqb}
 use Rattle.definition.specs.Ops.{isPower}
 use Rattle.definition.specs.States.{fill}
-use Rattle.definition.proofs.Ops.{power-cases}
+use Rattle.laws.proofs.Ops.{power-cases}
 
 -- f at i and the n - 1 numbers after it
 abbrev pub each : {A : Type 0} → (ℕ → A) → ℕ → ℕ → List A

@@ -16,7 +16,7 @@ use Rattle.definition.specs.Answers.{refused, accepted, require, _>>_}
 use Rattle.definition.specs.Bytes.{total, sign, signed, low}
 use Rattle.definition.specs.Values.{integer}
 use Rattle.definition.specs.Fields.{all}
-use Rattle.definition.proofs.Bytes.{total-more, length-ordered, length-part, part-at, number-is}
+use Rattle.laws.proofs.Bytes.{total-more, length-ordered, length-part, part-at, number-is}
 use Rattle.coder.specs.Digits.{placeOf, lowestFirst, lowBytes, highBytes}
 use Rattle.coder.specs.Numbers.{unsignedAt, signedAt}
 use Rattle.coder.proofs.Placing.{ordered-at, place-lt, shifted, above-lt}

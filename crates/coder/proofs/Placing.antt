@@ -13,7 +13,7 @@ use lib.ListN.{length, getD, replicate, length-reverse, getD-replicate, List·ge
 use lib.Seq.{getD-append-add, getD-at}
 use borrow.Author.Tests.{ltb-true, ltb-false}
 use Rattle.definition.specs.Bytes.{little, ordered, low, laid}
-use Rattle.definition.proofs.Bytes.{length-little, little-at, length-ordered, length-laid}
+use Rattle.laws.proofs.Bytes.{length-little, little-at, length-ordered, length-laid}
 use Rattle.coder.specs.Digits.{byteOf, placeOf}
 
 -- ---- where

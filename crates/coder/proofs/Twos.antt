@@ -12,7 +12,7 @@ use mir.Val.{SFits, toZ, ofZ}
 use mir.Facts.{toZ-ofZ}
 use borrow.Author.Tests.{ltb-true, ltb-false, le-ltb}
 use Rattle.definition.specs.Bytes.{extent, signed, low}
-use Rattle.definition.proofs.Bytes.{signed-low, signed-high}
+use Rattle.laws.proofs.Bytes.{signed-low, signed-high}
 
 -- ---- -1 - z
 

@@ -1,10 +1,13 @@
 -- What P1 to P14 and the tables of Entries leave out: traps, the order of checks, both sides of every boundary. A table for each subject; its answers are document 01's, and it holds by computation.
-use Prim.Native.Nat.{ℕ, _-_, _^_}
+use Prim.Native.Nat.{ℕ, zero, suc, _-_, _^_, _≤_, _<_}
 use mathlib.Core.Path.{_≡_, refl}
 use mathlib.Core.Bool.{true, false}
 use mathlib.Core.List.{List, [], _∷_, _++_, map}
 use lib.IntN.{pos, negsuc}
-use lib.ListN.{replicate}
+use native.Mathlib.Omega.{arith}
+use lib.ListN.{length, replicate, length-replicate}
+use lib.Seq.{length-take-le}
+use borrow.Author.Tests.{le-leb, lt-leb}
 use lib.Ieee.{ofBits, toBits, ofInt, ofFields, odd, round, nanBits, size, span, climb, units}
 use lib.Count.{trailingZeros}
 use Rattle.single.specs.Single.{toSingle, fromSingle}
@@ -16,7 +19,7 @@ use Rattle.definition.specs.Options.{entryList, options}
 use Rattle.definition.specs.Items.{digits, nextByte, taken, itemsPast, value, numeralOf}
 use Rattle.definition.specs.Ops.{opOf}
 use Rattle.definition.specs.States.{state, start, longer, alignment, padding}
-use Rattle.definition.specs.Fields.{word, encode, short, number, decode, kept}
+use Rattle.definition.specs.Fields.{word, encode, short, upToZero, number, decode, kept}
 use Rattle.definition.specs.Measuring.{measureOp, measure}
 use Rattle.definition.specs.Writing.{writeField, writeOp}
 use Rattle.definition.specs.Reading.{Read, offset, positionOf, readField, readOp, read}
@@ -539,18 +542,10 @@ texts-read =
     ∷ read-refused ">s9" (1 ∷ replicate 8 0) (pos 1) 18
     ∷ []
 
--- the number of a refusal, else 0
-abbrev refusal : {A : Type 0} → Checked A → ℕ
-refusal (refused k) = k
-refusal (accepted a) = 0
-
--- "20 text above 65,535"; Premises has c65536
-abbrev long-texts : List (ℕ × ℕ)
-long-texts =
-    (refusal (short (replicate 65535 1)), 0)
-    ∷ (refusal (decode false ZeroEnded (replicate 65536 1 ++ (0 ∷ []))), 20)
-    ∷ (refusal (decode false (Counted 3) (0 ∷ 0 ∷ 1 ∷ replicate 65536 1)), 20)
-    ∷ []
+-- the text of z, of n ones
+up-to-zero : (n : ℕ) → upToZero (replicate n 1 ++ (0 ∷ [])) ≡ accepted (replicate n 1)
+up-to-zero zero = refl
+up-to-zero (suc n) = rw (up-to-zero n)
 
 -- "Kept, by option", where Entries does not say it
 abbrev kept-values : List Row
@@ -621,7 +616,11 @@ pub record Examples : Type 0 where
   pub of-kept-values : Hold kept-values
   pub of-kept-signed : Same kept-signed
   pub of-inputs : Hold inputs
-  pub of-long-texts : Same long-texts
+  -- "20 text above 65,535", of texts of every length; Premises has c65536
+  pub of-short-texts : (s : List ℕ) → length s ≤ 65535 → short s ≡ accepted s
+  pub of-long-texts : (s : List ℕ) → 65535 < length s → short s ≡ refused 20
+  pub of-long-z : (n : ℕ) → 65535 < n → decode false ZeroEnded (replicate n 1 ++ (0 ∷ [])) ≡ refused 20
+  pub of-long-s : (s : List ℕ) → length s ≡ 65536 → decode false (Counted 3) (0 ∷ 0 ∷ 1 ∷ s) ≡ refused 20
 
 pub examples : Examples
 unfolding little total signed laid listOf fieldOf valuesPast fieldsAfter entryList options digits nextByte taken itemsPast value numeralOf opOf longer
@@ -656,5 +655,8 @@ examples =
       of-kept-values = refl;
       of-kept-signed = refl;
       of-inputs = refl;
-      of-long-texts = refl;
+      of-short-texts = λ s h. rw (le-leb (length s) 65535 h);
+      of-long-texts = λ s h. rw (lt-leb (length s) 65535 h);
+      of-long-z = λ n h. rw (up-to-zero n, length-replicate {A = ℕ} n 1, lt-leb n 65535 h);
+      of-long-s = λ s h. rw (h, length-take-le 65536 s (omega arith));
     }

@@ -14,8 +14,7 @@ pub mod Reading
 pub mod Bound
 pub mod Program
 pub mod Calls
-pub mod Claims
+pub mod Kept
 pub mod Profiles
 pub mod Entries
 pub mod Examples
-pub mod Premises

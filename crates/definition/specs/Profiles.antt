@@ -22,7 +22,7 @@ use Rattle.definition.specs.Writing.{writeField, writeOp}
 use Rattle.definition.specs.Reading.{readField, readOp, read}
 use Rattle.definition.specs.Program.{printed}
 use Rattle.definition.specs.Calls.{Call, stringPacksize, listBound, pack, packContinued, stringPack, unpack, stringUnpack}
-use Rattle.definition.specs.Claims.{keptList}
+use Rattle.definition.specs.Kept.{keptList}
 use Rattle.definition.specs.declared.State.{State}
 use Rattle.definition.specs.declared.Continued.{Continued}
 use Rattle.definition.specs.declared.Unpacked.{Unpacked}

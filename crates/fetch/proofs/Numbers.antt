@@ -22,7 +22,7 @@ use Rattle.definition.specs.declared.Field.the-variants as Field
 use Rattle.definition.proofs.Kind.{the-type}
 use Rattle.coder.specs.Digits.{lowBytes}
 use Rattle.coder.specs.Numbers.{unsignedAt, signedAt}
-use Rattle.definition.proofs.Bytes.{number-is}
+use Rattle.laws.proofs.Bytes.{number-is}
 use Rattle.fetch.specs.Readings.{from, valueOf, Inside, Decodes}
 use Rattle.fetch.specs.declared.decode.Reading.{Reading}
 use Rattle.fetch.specs.declared.decode.Reading.the-variants.{Integer, Float}

@@ -15,7 +15,7 @@ use Rattle.definition.specs.Values.{Value}
 use Rattle.definition.specs.States.{set, further, natural, padding}
 use Rattle.definition.specs.Writing.{Place, place}
 use Rattle.definition.specs.Reading.{Read, valuesOf, atOffset, skipped, readField, readOp}
-use Rattle.definition.proofs.Traces.{mapOut, readValue}
+use Rattle.laws.proofs.Traces.{mapOut, readValue}
 use Rattle.definition.specs.declared.State.{State}
 use Rattle.definition.specs.declared.Offset.{Offset}
 use Rattle.definition.specs.declared.Field.{Field}

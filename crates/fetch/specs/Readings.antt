@@ -10,7 +10,7 @@ use Rattle.definition.specs.Values.{Value, integer, float, text}
 use Rattle.definition.specs.Fields.{upToZero, decode}
 use Rattle.definition.specs.Writing.{Place, place}
 use Rattle.definition.specs.Reading.{offset, offsetIn, atOffset, readPad}
-use Rattle.definition.proofs.Traces.{readValue}
+use Rattle.laws.proofs.Traces.{readValue}
 use Rattle.definition.specs.declared.State.{State}
 use Rattle.definition.specs.declared.Offset.{Offset}
 use Rattle.definition.specs.declared.Field.{Field}

@@ -16,7 +16,7 @@ ghost use lib.Dec.{T};
 ghost use lib.ListN.{length};
 ghost use Rattle.definition.specs.declared.Field.the-variants as field;
 ghost use Rattle.definition.specs.declared.Kind.the-variants as kind;
-ghost use Rattle.definition.proofs.Numbers.{validSize};
+ghost use Rattle.laws.proofs.Numbers.{validSize};
 ghost use Rattle.fetch.specs.Readings.{Within, Decodes, ZeroFrom};
 
 // A value that is read: an integer, a float by its 64 bits, or a text by its offset in the data and its length.

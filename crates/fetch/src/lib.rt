@@ -24,9 +24,9 @@ ghost use mathlib.Core.Path.{_≡_};
 ghost use lib.Dec.{T};
 ghost use Rattle.definition.specs.declared.Field.the-variants as fields;
 ghost use Rattle.definition.specs.declared.Op.the-variants as ops;
-ghost use Rattle.definition.proofs.Numbers.{validSize};
-ghost use Rattle.definition.proofs.Fields.{validField};
-ghost use Rattle.definition.proofs.Ops.{validOp};
+ghost use Rattle.laws.proofs.Numbers.{validSize};
+ghost use Rattle.laws.proofs.Fields.{validField};
+ghost use Rattle.laws.proofs.Ops.{validOp};
 ghost use Rattle.fetch.specs.Readings.{Stands, Skips, Countable, afterOf, isText, Fetches};
 
 // The offset after some bytes, or the number of a refusal.

@@ -9,7 +9,7 @@ use lib.Seq.{paste}
 use Rattle.definition.specs.Bytes.{bits}
 use Rattle.definition.specs.Lists.{big, listOf}
 use Rattle.definition.specs.Values.{integer, float, text}
-use Rattle.definition.proofs.Lists.{length-big}
+use Rattle.laws.proofs.Lists.{length-big}
 use Rattle.coder.proofs.Pasting.{set-paste, paste-on, paste-before}
 
 -- ---- the fields in the definition's terms

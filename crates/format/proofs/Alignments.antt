@@ -16,7 +16,7 @@ use Rattle.definition.specs.Ops.{within16, sizeOr, naturalBy}
 use Rattle.definition.specs.Items as Numeral
 use Rattle.format.specs.Packed.{sizeAt, entryAt}
 use Rattle.format.specs.Operands.{taking, operandAt, naturalAt, oneMore}
-use Rattle.definition.proofs.Ops.{ok}
+use Rattle.laws.proofs.Ops.{ok}
 use Rattle.format.proofs.Entries.{cut, at-fixed, at-plain, at-signed, at-unsigned, at-counted, at-chars, at-limit, at-align, at-none, own-size, sized-by, plain-all}
 use Rattle.format.proofs.Numerals.{by-digits}
 

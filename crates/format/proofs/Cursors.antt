@@ -12,7 +12,7 @@ use Rattle.definition.specs.Answers.{Checked, refused, accepted, _>>=_}
 use Rattle.definition.specs.Options.{Table, Class, NumeralRule, Nothing, Digits, DigitsBehindX, NextByte, Entry}
 use Rattle.definition.specs.Items.{taken, takenBy, numeralOf, Numeral, Missing}
 use Rattle.definition.specs.Ops.{within16, opBy, opWith, opOf}
-use Rattle.definition.proofs.Ops.{entryOk, Sizes}
+use Rattle.laws.proofs.Ops.{entryOk, Sizes}
 use Rattle.definition.specs.Options as Class
 use Rattle.definition.specs.declared.Op.{Op}
 use Rattle.definition.specs.declared.Op.the-variants as Op

@@ -15,7 +15,7 @@ use Rattle.definition.specs.Items as Numeral
 use Rattle.numeral.specs.Numerals.{shortOf}
 use Rattle.numeral.specs.declared.Short.{Short}
 use Rattle.numeral.specs.declared.Short.the-variants as Short
-use Rattle.definition.proofs.Answers.{both-parts}
+use Rattle.laws.proofs.Answers.{both-parts}
 use Rattle.format.specs.Packed.{sizeAt, entryAt}
 use Rattle.format.specs.Operands.{operandBy, operandAt, shownAt}
 use Rattle.format.proofs.Entries.{cut, sized-by, chars-by, limit-by}

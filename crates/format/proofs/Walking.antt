@@ -12,10 +12,10 @@ use Rattle.definition.specs.Options.{Table}
 use Rattle.definition.specs.Items.{Item, item, taken}
 use Rattle.definition.specs.Ops.{opOf, ops}
 use Rattle.definition.specs.declared.Op.{Op}
-use Rattle.definition.proofs.Answers.{bound}
-use Rattle.definition.proofs.Items.{items-nil, items-cons}
-use Rattle.definition.proofs.Ops.{validOp, Sizes, op-valid}
-use Rattle.definition.proofs.Parts.{after-nothing, after-after}
+use Rattle.laws.proofs.Answers.{bound}
+use Rattle.laws.proofs.Items.{items-nil, items-cons}
+use Rattle.laws.proofs.Ops.{validOp, Sizes, op-valid}
+use Rattle.laws.proofs.Parts.{after-nothing, after-after}
 use Rattle.format.specs.Steps.{nextAt}
 use Rattle.format.proofs.Taken.{taken-length}
 

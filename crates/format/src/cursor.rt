@@ -16,7 +16,7 @@ use definition::Op;
 use definition::Setting;
 ghost use mathlib.Core.Path.{_≡_};
 ghost use lib.ListN.{drop};
-ghost use Rattle.definition.proofs.Ops.{Sizes};
+ghost use Rattle.laws.proofs.Ops.{Sizes};
 ghost use Rattle.format.specs.Packed.{tableAt, plainAt};
 ghost use Rattle.format.specs.Operands.{opFor};
 ghost use Rattle.format.specs.Steps.{opAt, nextOf, nextAt};

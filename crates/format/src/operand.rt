@@ -21,7 +21,7 @@ ghost use lib.ListN.{length, drop};
 ghost use Rattle.definition.specs.Options.{Table};
 ghost use Rattle.definition.specs.Ops.{sizeOr, limitOr};
 ghost use Rattle.definition.specs.Items.{Missing, Value};
-ghost use Rattle.definition.proofs.Ops.{Sizes};
+ghost use Rattle.laws.proofs.Ops.{Sizes};
 ghost use Rattle.format.specs.Packed.{entryAt, tableAt};
 ghost use Rattle.format.specs.Operands.{operandBy, taking, operandAt, naturalAt, oneMore, shownAt, operandOf, roomFor1, behindOf, numeralBehind};
 

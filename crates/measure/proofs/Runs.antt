@@ -10,7 +10,7 @@ use Rattle.definition.specs.Options.{Table}
 use Rattle.definition.specs.Ops.{ops}
 use Rattle.definition.specs.declared.State.{State}
 use Rattle.definition.specs.declared.Op.{Op}
-use Rattle.definition.proofs.Answers.{silent-on}
+use Rattle.laws.proofs.Answers.{silent-on}
 use Rattle.align.specs.Amounts.{stateOf}
 use Rattle.align.specs.declared.Next.{Next}
 use Rattle.align.specs.declared.Next.the-variants as Stepped

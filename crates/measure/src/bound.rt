@@ -19,7 +19,7 @@ ghost use mathlib.Core.Path.{_≡_};
 ghost use Prim.Native.Nat.{_+_, min};
 ghost use Rattle.definition.specs.Bound as bounds;
 ghost use Rattle.definition.specs.Calls.{listBound};
-ghost use Rattle.definition.proofs.Ops.{Sizes};
+ghost use Rattle.laws.proofs.Ops.{Sizes};
 ghost use Rattle.align.specs.Amounts.{stateOf};
 ghost use Rattle.format.specs.Packed.{tableAt};
 ghost use Rattle.measure.specs.Fields.{boundField, boundPad};

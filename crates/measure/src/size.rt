@@ -16,7 +16,7 @@ use format::options::table;
 ghost use mathlib.Core.Path.{_≡_};
 ghost use Rattle.definition.specs.Measuring.{sizeOf, measurePad, measureOp, measureFrom};
 ghost use Rattle.definition.specs.Calls.{stringPacksize};
-ghost use Rattle.definition.proofs.Ops.{Sizes};
+ghost use Rattle.laws.proofs.Ops.{Sizes};
 ghost use Rattle.align.specs.Amounts.{amountOf, stateOf};
 ghost use Rattle.format.specs.Packed.{tableAt};
 ghost use Rattle.measure.specs.Fields.{measureField};

@@ -17,7 +17,7 @@ use lib.Ieee.Nearest.{closest, closest-same, div-same}
 use lib.Ieee.Scale.{grid, round-val}
 use Rattle.single.proofs.Packing.{rescale}
 use Rattle.definition.specs.Values.{cut, cutFloat, wrapped}
-use Rattle.definition.proofs.Answers.{both-parts}
+use Rattle.laws.proofs.Answers.{both-parts}
 use Rattle.numbers.specs.WholeNumbers.{wrappedWhole}
 use Rattle.numbers.proofs.Digits.{whole-few, fraction-few}
 use Rattle.numbers.proofs.Remainders.{left, left-lt, scaled, left-fraction}

@@ -13,7 +13,7 @@ use borrow.Author.Tests.{lt-ltb, le-ltb, ltb-false, leb-true, eqb-true, eqb-fals
 use borrow.Table.Steps.{cases}
 use Rattle.definition.specs.Items.{isDigit, digits, value, numeralOf}
 use Rattle.definition.specs.Items as Numeral
-use Rattle.definition.proofs.Answers.{both-parts}
+use Rattle.laws.proofs.Answers.{both-parts}
 use Rattle.numeral.specs.Numerals.{digitFirst, grown, digitOn, readOn, scanBy, scanned, shortOf}
 use Rattle.numeral.specs.declared.Digit.{Digit}
 use Rattle.numeral.specs.declared.Digit.the-variants as Digit

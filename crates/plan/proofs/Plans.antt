@@ -25,13 +25,13 @@ use Rattle.definition.specs.declared.Field.{Field}
 use Rattle.definition.specs.declared.Field.the-variants as Field
 use Rattle.definition.specs.declared.Op.{Op}
 use Rattle.definition.specs.declared.Op.the-variants as Op
-use Rattle.definition.proofs.Answers.{same, bound, passed, both-parts}
-use Rattle.definition.proofs.Bytes.{length-laid}
-use Rattle.definition.proofs.Calls.{Sound}
-use Rattle.definition.proofs.Fields.{validField}
-use Rattle.definition.proofs.Numbers.{validSize}
-use Rattle.definition.proofs.Ops.{power-cases, validOp}
-use Rattle.definition.proofs.Steps.{room-longer}
+use Rattle.laws.proofs.Answers.{same, bound, passed, both-parts}
+use Rattle.laws.proofs.Bytes.{length-laid}
+use Rattle.laws.proofs.Calls.{Sound}
+use Rattle.laws.proofs.Fields.{validField}
+use Rattle.laws.proofs.Numbers.{validSize}
+use Rattle.laws.proofs.Ops.{power-cases, validOp}
+use Rattle.laws.proofs.Steps.{room-longer}
 use Rattle.values.specs.Meaning.{meaning, FieldRead}
 use Rattle.values.specs.declared.Field.the-variants as Found
 use Rattle.values.specs.declared.Value.{Value}

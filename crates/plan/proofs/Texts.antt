@@ -23,8 +23,8 @@ use Rattle.definition.specs.Lists.{values}
 use Rattle.definition.specs.Fields.{encode, hasZero}
 use Rattle.definition.specs.declared.Field.{Field}
 use Rattle.definition.specs.declared.Field.the-variants as Field
-use Rattle.definition.proofs.Bytes.{pow-le, length-laid}
-use Rattle.definition.proofs.Numbers.{within-from-1}
+use Rattle.laws.proofs.Bytes.{pow-le, length-laid}
+use Rattle.laws.proofs.Numbers.{within-from-1}
 use Rattle.values.specs.Meaning.{meaning, Inside, FieldRead}
 use Rattle.values.specs.declared.Field.the-variants as Found
 use Rattle.values.specs.declared.Value.{Value}

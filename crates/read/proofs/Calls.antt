@@ -20,9 +20,9 @@ use Rattle.definition.specs.declared.State.{State}
 use Rattle.definition.specs.declared.Offset.{Offset}
 use Rattle.definition.specs.declared.Position.{Position}
 use Rattle.definition.specs.declared.Unpacked.{Unpacked}
-use Rattle.definition.proofs.Answers.{same, passed, both-parts}
-use Rattle.definition.proofs.Calls.{into-fits}
-use Rattle.definition.proofs.Traces.{listed, unpack-values}
+use Rattle.laws.proofs.Answers.{same, passed, both-parts}
+use Rattle.laws.proofs.Calls.{into-fits}
+use Rattle.laws.proofs.Traces.{listed, unpack-values}
 use Rattle.fetch.proofs.Numbers.{bind-bind}
 use Rattle.read.specs.Runs.{readAt, Reads, Fits, listInto, listAfter}
 

@@ -14,12 +14,12 @@ use Rattle.definition.specs.Values.{Value}
 use Rattle.definition.specs.Lists.{listOf}
 use Rattle.definition.specs.Writing.{Place}
 use Rattle.definition.specs.Reading.{offsetIn, atOffset}
-use Rattle.definition.proofs.Traces.{readValue, readingValues}
+use Rattle.laws.proofs.Traces.{readValue, readingValues}
 use Rattle.definition.specs.declared.State.{State}
 use Rattle.definition.specs.declared.Offset.{Offset}
 use Rattle.definition.specs.declared.Op.{Op}
-use Rattle.definition.proofs.Answers.{never, after-accepted}
-use Rattle.definition.proofs.Lists.{list-append}
+use Rattle.laws.proofs.Answers.{never, after-accepted}
+use Rattle.laws.proofs.Lists.{list-append}
 use Rattle.format.specs.Steps.{nextAt}
 use Rattle.coder.proofs.Pasting.{paste-front}
 use Rattle.fetch.specs.Readings.{valueOf, Inside, Stands, placeIn, FetchedStands, Fetches}

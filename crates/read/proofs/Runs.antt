@@ -12,7 +12,7 @@ use Rattle.definition.specs.Reading.{atOffset}
 use Rattle.definition.specs.declared.State.{State}
 use Rattle.definition.specs.declared.Offset.{Offset}
 use Rattle.definition.specs.declared.Op.{Op}
-use Rattle.definition.proofs.Traces.{readValue}
+use Rattle.laws.proofs.Traces.{readValue}
 use Rattle.format.specs.Steps.{nextAt}
 use Rattle.format.proofs.Walking as Walk
 use Rattle.fetch.specs.Readings.{valueOf, Stands, placeIn, fetchedOf, FetchedStands, Fetches}

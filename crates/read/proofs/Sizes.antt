@@ -8,7 +8,7 @@ use lib.Seq.{length-take-le}
 use Rattle.definition.specs.Bytes.{bits}
 use Rattle.definition.specs.Values.{Value, integer, float, text}
 use Rattle.definition.specs.Lists.{big, content, listOf}
-use Rattle.definition.proofs.Lists.{length-big, length-list}
+use Rattle.laws.proofs.Lists.{length-big, length-list}
 use Rattle.fetch.specs.Readings.{from, valueOf, Inside}
 use Rattle.fetch.specs.declared.decode.Reading.{Reading}
 use Rattle.fetch.specs.declared.decode.Reading.the-variants.{Integer, Float, Text}

@@ -10,7 +10,7 @@ use Rattle.definition.specs.Values.{Value}
 use Rattle.definition.specs.Lists.{listOf}
 use Rattle.definition.specs.Writing.{Place}
 use Rattle.definition.specs.Reading.{offsetIn}
-use Rattle.definition.proofs.Traces.{readingValues}
+use Rattle.laws.proofs.Traces.{readingValues}
 use Rattle.definition.specs.declared.State.{State}
 use Rattle.definition.specs.declared.Offset.{Offset}
 use Rattle.fetch.specs.Readings.{Within, placeIn}

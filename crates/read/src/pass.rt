@@ -19,7 +19,7 @@ ghost use Prim.Native.Nat.{ℕ, _+_, _≤_};
 ghost use lib.ListN.{length};
 ghost use lib.Seq.{paste};
 ghost use Rattle.definition.specs.Lists.{listOf};
-ghost use Rattle.definition.proofs.Ops.{Sizes};
+ghost use Rattle.laws.proofs.Ops.{Sizes};
 ghost use Rattle.fetch.specs.Readings.{valueOf, Inside, Stands};
 ghost use Rattle.format.specs.Packed.{tableAt};
 ghost use Rattle.read.specs.Runs.{sizeOf, Short, SameTo63, Checks, Fits, listAfter};

@@ -16,7 +16,7 @@ use Rattle.definition.specs.Bytes.{signed}
 use Rattle.definition.specs.Values as definition
 use Rattle.definition.specs.Values.{integer, float, text, other}
 use Rattle.definition.specs.Lists.{bigTotal, valueOf, fieldOf, values}
-use Rattle.definition.proofs.Answers.{true-not-false}
+use Rattle.laws.proofs.Answers.{true-not-false}
 use Rattle.values.proofs.Fields.{values-by}
 use Rattle.values.specs.Loading.{Loaded}
 use Rattle.values.specs.Meaning.{isAccepted, meaning, Proper, Inside, FloatRead, Standing, placed, fieldAt, sizeAt, Complete, numeric, suits, FieldRead}

@@ -10,7 +10,7 @@ use lib.Seq.{drop-drop}
 use Rattle.definition.specs.Answers.{Checked, refused, accepted, _>>=_}
 use Rattle.definition.specs.Values as definition
 use Rattle.definition.specs.Lists.{bigTotal, fieldOf, valuesPast, values, fieldsAfter}
-use Rattle.definition.proofs.Lists.{past-drop, none-after, after-first}
+use Rattle.laws.proofs.Lists.{past-drop, none-after, after-first}
 use Rattle.values.specs.Meaning.{isAccepted, Standing, placed, firstField, fieldAt, sizeAt}
 
 -- the values of a list that begins with w

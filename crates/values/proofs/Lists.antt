@@ -7,7 +7,7 @@ use lib.Dec.{eqb→eq}
 use Rattle.definition.specs.Answers.{Checked, refused, accepted}
 use Rattle.definition.specs.Values as definition
 use Rattle.definition.specs.Lists.{values}
-use Rattle.definition.proofs.Refusals.{By21, low, values-21}
+use Rattle.laws.proofs.Refusals.{By21, low, values-21}
 use Rattle.values.specs.Meaning.{isAccepted}
 
 pub refused-list : (l : List ℕ) → isAccepted (values l) ≡ false → values l ≡ refused 21

@@ -7,7 +7,7 @@ use native.Mathlib.Omega.{arith}
 use lib.ListN.{length, take, drop, length-reverse}
 use lib.Seq.{take-all}
 use Rattle.definition.specs.Bytes.{total, low}
-use Rattle.definition.proofs.Bytes.{length-part}
+use Rattle.laws.proofs.Bytes.{length-part}
 use Rattle.coder.specs.Digits.{lowBytes}
 use Rattle.values.specs.Loading.{Loaded}
 

@@ -21,8 +21,8 @@ use Rattle.definition.specs.Fields.{inSigned, inUnsigned, floatBy, word}
 use Rattle.definition.specs.declared.Kind.{Kind}
 use Rattle.definition.specs.declared.Kind.the-variants.{SmallSigned, SmallUnsigned, Signed, Unsigned, LuaInteger, LuaUnsigned, Size, Single, Double}
 use Rattle.coder.proofs.Twos.{extent-fits, negative, positive}
-use Rattle.definition.proofs.Bytes.{pow-le}
-use Rattle.definition.proofs.Numbers.{validSize}
+use Rattle.laws.proofs.Bytes.{pow-le}
+use Rattle.laws.proofs.Numbers.{validSize}
 use Rattle.coder.proofs.Placing.{bits-of-bytes}
 use Rattle.single.specs.Single.{toSingle}
 use Rattle.numbers.specs.Meaning.{wrappedFloat}

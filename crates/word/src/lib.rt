@@ -16,7 +16,7 @@ ghost use Prim.Native.Nat.{ℕ, _^_, _≤_, _<_};
 ghost use lib.Dec.{T};
 ghost use Rattle.definition.specs.Fields as fields;
 ghost use Rattle.definition.specs.declared.Kind.the-variants as kinds;
-ghost use Rattle.definition.proofs.Numbers.{validSize};
+ghost use Rattle.laws.proofs.Numbers.{validSize};
 ghost use Rattle.values.specs.Meaning.{meaning, Proper};
 ghost use Rattle.numbers.specs.Meaning.{bitsFound};
 ghost use Rattle.word.specs.Words.{Says, patternOr, rangedOr};

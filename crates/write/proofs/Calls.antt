@@ -17,9 +17,9 @@ use Rattle.definition.specs.Writing.{Output, Place, write}
 use Rattle.definition.specs.Calls.{Call, call, into, atMost63, pack, recordOf, continuedOf, packContinued, stringPack}
 use Rattle.definition.specs.declared.State.{State}
 use Rattle.definition.specs.declared.Continued.{Continued}
-use Rattle.definition.proofs.Answers.{Bound, never, same, same-number, bound}
-use Rattle.definition.proofs.Calls.{Sound, pack-run, length-record, into-fits}
-use Rattle.definition.proofs.Cutting.{plain-is}
+use Rattle.laws.proofs.Answers.{Bound, never, same, same-number, bound}
+use Rattle.laws.proofs.Calls.{Sound, pack-run, length-record, into-fits}
+use Rattle.laws.proofs.Cutting.{plain-is}
 use Rattle.values.specs.Meaning.{isAccepted}
 use Rattle.values.proofs.Lists.{refused-list}
 use Rattle.write.specs.Answers.{answerOf, continuedCallOf}

@@ -9,7 +9,7 @@ use lib.ListN.{length, drop, replicate, length-append, length-replicate}
 use lib.Seq.{paste, length-paste}
 use Rattle.definition.specs.Bytes.{laid}
 use Rattle.coder.proofs.Pasting.{paste-on, paste-front}
-use Rattle.definition.proofs.Bytes.{length-laid}
+use Rattle.laws.proofs.Bytes.{length-laid}
 
 -- y put at the front
 pub paste-whole : (d y : List ℕ) (m : ℕ) → length y ≡ m → paste d 0 y m ≡ y ++ drop m d

@@ -19,10 +19,10 @@ use Rattle.definition.specs.Calls.{recordOf}
 use Rattle.definition.specs.declared.Continued.{Continued}
 use Rattle.definition.specs.declared.State.{State}
 use Rattle.definition.specs.declared.Op.{Op}
-use Rattle.definition.proofs.Calls.{Sound, step-sound, length-record}
-use Rattle.definition.proofs.Cutting.{nothing-left, nothing-right, join-assoc}
-use Rattle.definition.proofs.Ops.{validOp, Sizes}
-use Rattle.definition.proofs.Steps.{length-step, step-of}
+use Rattle.laws.proofs.Calls.{Sound, step-sound, length-record}
+use Rattle.laws.proofs.Cutting.{nothing-left, nothing-right, join-assoc}
+use Rattle.laws.proofs.Ops.{validOp, Sizes}
+use Rattle.laws.proofs.Steps.{length-step, step-of}
 use Rattle.values.specs.Meaning.{isAccepted}
 use Rattle.format.specs.Steps.{nextAt}
 use Rattle.format.proofs.Walking.{Walked, valid, ahead, walk-none, walk-end, walk-refusal, walk-refused, walk-on}

@@ -1,5 +1,5 @@
 -- `put_number` meets its contract: the coder's bytes, in this order and up to eight, are those of a number.
-use Rattle.definition.proofs.Lists.{laid-big}
+use Rattle.laws.proofs.Lists.{laid-big}
 use borrow.Author.Needs.{needs}
 use Rattle.fields.proofs.put_number.Statement.{statement}
 use Rattle.fields.proofs.put_number.Tie as tie

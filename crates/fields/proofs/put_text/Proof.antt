@@ -1,6 +1,6 @@
 -- `put_text` meets its contract: a head of tag 3, and the text right after it.
 use lib.ListN.{take, drop}
-use Rattle.definition.proofs.Bytes.{length-part}
+use Rattle.laws.proofs.Bytes.{length-part}
 use Rattle.fields.proofs.Storing.{text-stored}
 use borrow.Author.Needs.{needs}
 use Rattle.fields.proofs.put_text.Statement.{statement}

@@ -8,8 +8,8 @@ use Rattle.definition.specs.Answers.{accepted}
 use Rattle.definition.specs.Options.{Table, options}
 use Rattle.definition.specs.States.{start}
 use Rattle.definition.specs.Reading.{offsetOf, atOffset}
-use Rattle.definition.proofs.Answers.{true-not-false}
-use Rattle.definition.proofs.Ops.{Sizes, options-sizes}
+use Rattle.laws.proofs.Answers.{true-not-false}
+use Rattle.laws.proofs.Ops.{Sizes, options-sizes}
 use Rattle.format.specs.Packed.{tableAt}
 use Rattle.position.specs.Starts.{startedOf}
 use Rattle.fetch.specs.Readings.{Stands}

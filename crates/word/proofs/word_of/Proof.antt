@@ -3,7 +3,7 @@ use mathlib.Core.Path.{sym, ap, _∙_}
 use native.Mathlib.Omega.{arith}
 use lib.Dec.{leb→le, eqb→eq}
 use Rattle.definition.specs.declared.Kind.the-variants.{LuaUnsigned}
-use Rattle.definition.proofs.Numbers.{within-from-1}
+use Rattle.laws.proofs.Numbers.{within-from-1}
 use Rattle.word.specs.Words.{patternOr}
 use Rattle.word.proofs.Words.{says-as, of-kind, of-pattern, of-size, valid-as, same-small, double-word}
 use borrow.Author.Needs.{needs}

@@ -3,10 +3,10 @@ use mathlib.Core.Path.{_≡_, refl, sym, _∙_, subst}
 use mathlib.Core.Bool.{true, false, not}
 use Rattle.definition.specs.Options.{options}
 use Rattle.definition.specs.Lists.{values}
-use Rattle.definition.proofs.Answers.{true-not-false}
-use Rattle.definition.proofs.Calls.{Sound}
+use Rattle.laws.proofs.Answers.{true-not-false}
+use Rattle.laws.proofs.Calls.{Sound}
 use Rattle.values.specs.Meaning.{isAccepted}
-use Rattle.definition.proofs.Ops.{Sizes, options-sizes}
+use Rattle.laws.proofs.Ops.{Sizes, options-sizes}
 use Rattle.format.specs.Packed.{packed, tableAt}
 use Rattle.format.proofs.Table.{packed-options}
 use borrow.Author.Tests.{not-true, not-false}

@@ -7,7 +7,7 @@ use lib.Dec.{lit<}
 use mir.Facts.{toZ-ofZ}
 use mir.Syntax.{w64}
 use Rattle.definition.specs.Bytes.{low}
-use Rattle.definition.proofs.Bytes.{pow-pos}
+use Rattle.laws.proofs.Bytes.{pow-pos}
 use Rattle.coder.proofs.Placing.{shifted-one}
 use Rattle.coder.proofs.Twos.{restored-is}
 use borrow.Author.Needs.{needs, sfits-of}

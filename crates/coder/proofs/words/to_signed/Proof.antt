@@ -5,7 +5,7 @@ use native.Mathlib.Omega.{arith}
 use lib.IntN.{pos}
 use mir.Syntax.{w64}
 use mir.Facts.{toZ-pos}
-use Rattle.definition.proofs.Bytes.{signed-low}
+use Rattle.laws.proofs.Bytes.{signed-low}
 use Rattle.coder.proofs.Twos.{minus-one-fits, minus-one-is, signed-top}
 use borrow.Author.Needs.{needs}
 use Rattle.coder.proofs.words.to_signed.Statement.{statement}

@@ -3,7 +3,7 @@ use Prim.Native.Nat.{_-_}
 use mathlib.Core.Path.{sym, _∙_}
 use native.Mathlib.Omega.{arith}
 use Rattle.definition.specs.Bytes.{laid}
-use Rattle.definition.proofs.Bytes.{length-laid}
+use Rattle.laws.proofs.Bytes.{length-laid}
 use Rattle.coder.proofs.Placing.{laid-at}
 use Rattle.coder.proofs.Pasting.{Pasted, pasted-none, pasted-more, pasted-length, pasted-all}
 use Rattle.coder.proofs.writing.put_bytes.Statement.{statement}

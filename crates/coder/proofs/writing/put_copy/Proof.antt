@@ -3,7 +3,7 @@ use Prim.Native.Nat.{_-_}
 use mathlib.Core.Path.{sym}
 use native.Mathlib.Omega.{arith}
 use lib.ListN.{take, drop}
-use Rattle.definition.proofs.Bytes.{length-part, part-at}
+use Rattle.laws.proofs.Bytes.{length-part, part-at}
 use Rattle.coder.proofs.Pasting.{Pasted, pasted-none, pasted-more, pasted-length, pasted-all}
 use Rattle.coder.proofs.writing.put_copy.Statement.{statement}
 use Rattle.coder.proofs.writing.put_copy.Tie as tie

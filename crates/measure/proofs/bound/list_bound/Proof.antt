@@ -1,7 +1,7 @@
 -- The data length is tested first.
 use Prim.Native.Nat.{_-_, _^_}
 use mathlib.Core.Path.{sym, _∙_, subst}
-use Rattle.definition.proofs.Ops.{Sizes, options-sizes}
+use Rattle.laws.proofs.Ops.{Sizes, options-sizes}
 use borrow.Author.Needs.{needs}
 use Rattle.definition.specs.Calls.{listBound}
 use borrow.Author.Tests.{le-leb, lt-leb}

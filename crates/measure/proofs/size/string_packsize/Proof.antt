@@ -1,6 +1,6 @@
 -- The length of the state that the format leads to from the start state.
 use mathlib.Core.Path.{sym, subst}
-use Rattle.definition.proofs.Ops.{Sizes, options-sizes}
+use Rattle.laws.proofs.Ops.{Sizes, options-sizes}
 use Rattle.definition.specs.Measuring.{measure}
 use borrow.Author.Needs.{needs}
 use Rattle.measure.proofs.size.string_packsize.Statement.{statement}

@@ -3,7 +3,7 @@ use Prim.Native.Nat.{_+_, _≤_}
 use native.Mathlib.Omega.{arith}
 use lib.ListN.{length, take, drop, replicate, length-replicate}
 use Rattle.definition.specs.Bytes.{laid}
-use Rattle.definition.proofs.Bytes.{length-laid, length-part}
+use Rattle.laws.proofs.Bytes.{length-laid, length-part}
 use borrow.Author.Tests.{not-true, not-false}
 use Rattle.write.proofs.Pasting.{padded-three}
 use borrow.Author.Needs.{needs}

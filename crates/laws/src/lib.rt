@@ -1,0 +1,14 @@
+// What is claimed of the definitions, as contracts: the claims, and why they have their premises. The laws that prove them, which the code's proofs cite too,
+// are in proofs/.
+ghost use Rattle.laws.specs.Claims.{Demand, Continuing, Returned, Rooms, Numbered, Bounded, Decimals};
+ghost use Rattle.laws.specs.Premises.{Needed, Divided};
+
+// The claims, about the definitions that the contracts of the calls name.
+pub fn claims()
+    ensures { λ _. ⌜ Demand × Continuing × Returned × Rooms × Numbered × Bounded × Decimals ⌝ }
+{}
+
+// An example for each of their premises, and one of a format that is divided into parts.
+pub fn examples()
+    ensures { λ _. ⌜ Needed × Divided ⌝ }
+{}
