@@ -1,4 +1,3 @@
 pub mod Placing
 pub mod Pasting
 pub mod Gathering
-pub mod Twos

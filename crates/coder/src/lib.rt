@@ -1,6 +1,5 @@
 // Integers of 1 to 16 bytes in either byte order: written into a lent buffer, and read from data.
 pub mod reading;
-pub mod words;
 pub mod writing;
 
 ghost use mathlib.Core.Path.{_≡_};

@@ -1,7 +1,7 @@
 // Reads integers of data.
 use crate::place;
-use crate::words::sign_byte;
-use crate::words::to_signed;
+use words::sign_byte;
+use words::to_signed;
 ghost use mathlib.Core.Path.{_≡_};
 ghost use Prim.Native.Nat.{_+_, _<_, _≤_, _^_};
 ghost use lib.ListN.{length, drop};

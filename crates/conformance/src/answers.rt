@@ -1,5 +1,5 @@
 // The calls' answers as numbers.
-use coder::words::to_signed;
+use words::to_signed;
 use measure::Measured;
 use measure::list_bound;
 use measure::string_packsize;

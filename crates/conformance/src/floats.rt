@@ -1,7 +1,7 @@
 // Floats: as_integer, as_number and T.
 use crate::vector::Vector;
-use coder::words::to_signed;
-use coder::words::to_word;
+use words::to_signed;
+use words::to_word;
 use numbers::Found;
 use numbers::Number;
 use numbers::as_integer;

@@ -4,8 +4,8 @@ use coder::reading::Signed;
 use coder::reading::Unsigned;
 use coder::reading::get_signed;
 use coder::reading::get_unsigned;
-use coder::words::to_signed;
-use coder::words::to_word;
+use words::to_signed;
+use words::to_word;
 ghost use Prim.Native.Nat.{_≤_};
 
 // An integer's bytes, with a fill above eight.

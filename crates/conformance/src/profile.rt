@@ -30,7 +30,7 @@ use crate::show::print_named;
 use align::start;
 use definition::Continued;
 use definition::State;
-use write::Total;
+use write_pass::Total;
 use write::pack_continued;
 
 // A refusal, or a number.

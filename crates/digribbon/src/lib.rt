@@ -7,7 +7,7 @@ use read::Unpacking;
 use read::string_unpack;
 use values::fields_after;
 use write::Packed;
-use write::Total;
+use write_pass::Total;
 use write::pack_continued;
 use write::string_pack;
 ghost use mathlib.Core.Path.{_≡_};

@@ -26,9 +26,10 @@ use Rattle.definition.specs.declared.Op.{Op}
 use Rattle.definition.specs.declared.Op.the-variants as Op
 use Rattle.definition.proofs.Field.{the-type}
 use Rattle.definition.specs.Fields.{decode}
-use Rattle.fetch.specs.Readings.{Within, valueOf, isText, decodedOf, DecodedInside, Decodes, Stands, placeIn, Skips, afterOf, Countable, fetchedOf, FetchedStands, Fetches}
-use Rattle.fetch.specs.declared.decode.Decoded.{Decoded}
-use Rattle.fetch.specs.declared.decode.Decoded.the-variants as Decoded
+use Rattle.decode.specs.Readings.{Within, valueOf, isText, decodedOf, DecodedInside, Decodes}
+use Rattle.fetch.specs.Fetching.{Stands, placeIn, Skips, afterOf, Countable, fetchedOf, FetchedStands, Fetches}
+use Rattle.decode.specs.declared.Decoded.{Decoded}
+use Rattle.decode.specs.declared.Decoded.the-variants as Decoded
 use Rattle.fetch.specs.declared.Skipped.{Skipped}
 use Rattle.fetch.specs.declared.Skipped.the-variants as Skipped
 use Rattle.fetch.specs.declared.Fetched.{Fetched}

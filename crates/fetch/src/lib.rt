@@ -1,12 +1,11 @@
 // What one item does to the state and reads of the data, or its refusal.
-pub mod decode;
 
-use crate::decode::Decoded;
-use crate::decode::Reading;
-use crate::decode::counted;
-use crate::decode::number;
-use crate::decode::text;
-use crate::decode::zero_ended;
+use decode::Decoded;
+use decode::Reading;
+use decode::counted;
+use decode::number;
+use decode::text;
+use decode::zero_ended;
 use align::Amount;
 use align::at_offset;
 use align::natural;
@@ -27,7 +26,8 @@ ghost use Rattle.definition.specs.declared.Op.the-variants as ops;
 ghost use Rattle.laws.proofs.Numbers.{validSize};
 ghost use Rattle.laws.proofs.Fields.{validField};
 ghost use Rattle.laws.proofs.Ops.{validOp};
-ghost use Rattle.fetch.specs.Readings.{Stands, Skips, Countable, afterOf, isText, Fetches};
+ghost use Rattle.decode.specs.Readings.{isText};
+ghost use Rattle.fetch.specs.Fetching.{Stands, Skips, Countable, afterOf, Fetches};
 
 // The offset after some bytes, or the number of a refusal.
 pub enum Skipped {

@@ -1,5 +1,5 @@
 // Writes the fields of a value list: a tag, a length in two bytes, big-endian, and content.
-use coder::words::to_word;
+use words::to_word;
 use coder::writing::put;
 use coder::writing::put_copy;
 ghost use mathlib.Core.Path.{_≡_};

@@ -16,11 +16,11 @@ use Rattle.laws.proofs.Ops.{entryOk, Sizes}
 use Rattle.definition.specs.Options as Class
 use Rattle.definition.specs.declared.Op.{Op}
 use Rattle.definition.specs.declared.Op.the-variants as Op
-use Rattle.format.specs.Packed.{plainAt, entryAt}
-use Rattle.format.specs.Operands.{operandBy, operandWith, opFor, taking, operandAt}
+use Rattle.options.specs.Packed.{plainAt, entryAt}
+use Rattle.operand.specs.Operands.{operandBy, operandWith, opFor, taking, operandAt}
 use Rattle.format.specs.Steps.{opAt, nextAt}
 use Rattle.numeral.proofs.Digits.{drop-at}
-use Rattle.format.proofs.Entries.{cut, at-fixed, at-plain, at-align, at-none, digits-rule, own-size, plain-all}
+use Rattle.operand.proofs.Entries.{cut, at-fixed, at-plain, at-align, at-none, digits-rule, own-size, plain-all}
 
 -- ---- the operation by the operand
 

@@ -1,9 +1,2 @@
-pub mod Table
-pub mod Entries
-pub mod Numerals
-pub mod Alignments
-pub mod Taken
-pub mod Operands
-pub mod Shown
 pub mod Cursors
 pub mod Walking

@@ -17,7 +17,7 @@ use Rattle.laws.proofs.Items.{items-nil, items-cons}
 use Rattle.laws.proofs.Ops.{validOp, Sizes, op-valid}
 use Rattle.laws.proofs.Parts.{after-nothing, after-after}
 use Rattle.format.specs.Steps.{nextAt}
-use Rattle.format.proofs.Taken.{taken-length}
+use Rattle.operand.proofs.Taken.{taken-length}
 
 -- an item's check refuses as what it makes with a place does
 check-refused : (c : Checked Op) (p k : ℕ) → _>>=_ {B = Option (Op × ℕ)} c (λ o. accepted (some (o, p))) ≡ refused k → c ≡ refused k

@@ -8,8 +8,8 @@ use Rattle.definition.specs.Options.{Table}
 use Rattle.definition.specs.Items.{item, taken}
 use Rattle.definition.specs.Ops.{opOf}
 use Rattle.definition.specs.declared.Op.{Op}
-use Rattle.format.specs.Packed.{entryAt}
-use Rattle.format.specs.Operands.{opFor}
+use Rattle.options.specs.Packed.{entryAt}
+use Rattle.operand.specs.Operands.{opFor}
 use Rattle.format.specs.declared.cursor.Next.{Next}
 use Rattle.format.specs.declared.cursor.Next.the-variants as Next
 

@@ -1,15 +1,15 @@
 // Reads the items of a format, one after the other.
-use crate::operand::Operand;
-use crate::operand::operand_at;
-use crate::options::CHARS_END;
-use crate::options::COUNTED_END;
-use crate::options::FIXED_END;
-use crate::options::LIMIT_END;
-use crate::options::PLAIN_END;
-use crate::options::SIGNED_END;
-use crate::options::UNSIGNED_END;
-use crate::options::entry;
-use crate::options::kind_of;
+use operand::Operand;
+use operand::operand_at;
+use options::CHARS_END;
+use options::COUNTED_END;
+use options::FIXED_END;
+use options::LIMIT_END;
+use options::PLAIN_END;
+use options::SIGNED_END;
+use options::UNSIGNED_END;
+use options::entry;
+use options::kind_of;
 use definition::Field;
 use definition::Kind;
 use definition::Op;
@@ -17,8 +17,8 @@ use definition::Setting;
 ghost use mathlib.Core.Path.{_≡_};
 ghost use lib.ListN.{drop};
 ghost use Rattle.laws.proofs.Ops.{Sizes};
-ghost use Rattle.format.specs.Packed.{tableAt, plainAt};
-ghost use Rattle.format.specs.Operands.{opFor};
+ghost use Rattle.options.specs.Packed.{tableAt, plainAt};
+ghost use Rattle.operand.specs.Operands.{opFor};
 ghost use Rattle.format.specs.Steps.{opAt, nextOf, nextAt};
 
 // A place in a format.

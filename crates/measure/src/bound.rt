@@ -14,14 +14,14 @@ use definition::Op;
 use definition::State;
 use format::cursor::Cursor;
 use format::cursor::Next;
-use format::options::table;
+use options::table;
 ghost use mathlib.Core.Path.{_≡_};
 ghost use Prim.Native.Nat.{_+_, min};
 ghost use Rattle.definition.specs.Bound as bounds;
 ghost use Rattle.definition.specs.Calls.{listBound};
 ghost use Rattle.laws.proofs.Ops.{Sizes};
 ghost use Rattle.align.specs.Amounts.{stateOf};
-ghost use Rattle.format.specs.Packed.{tableAt};
+ghost use Rattle.options.specs.Packed.{tableAt};
 ghost use Rattle.measure.specs.Fields.{boundField, boundPad};
 ghost use Rattle.measure.specs.Measured.{measuredOf};
 

@@ -12,13 +12,13 @@ use definition::Op;
 use definition::State;
 use format::cursor::Cursor;
 use format::cursor::Next;
-use format::options::table;
+use options::table;
 ghost use mathlib.Core.Path.{_≡_};
 ghost use Rattle.definition.specs.Measuring.{sizeOf, measurePad, measureOp, measureFrom};
 ghost use Rattle.definition.specs.Calls.{stringPacksize};
 ghost use Rattle.laws.proofs.Ops.{Sizes};
 ghost use Rattle.align.specs.Amounts.{amountOf, stateOf};
-ghost use Rattle.format.specs.Packed.{tableAt};
+ghost use Rattle.options.specs.Packed.{tableAt};
 ghost use Rattle.measure.specs.Fields.{measureField};
 ghost use Rattle.measure.specs.Measured.{measuredOf};
 

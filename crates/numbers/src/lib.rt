@@ -1,5 +1,5 @@
 // The integer of a value, its number, and T of its float.
-use coder::words::extent;
+use words::extent;
 use single::nearest;
 ghost use mathlib.Core.Path.{_≡_};
 ghost use mathlib.Core.Bool.{true};

@@ -1,5 +1,5 @@
 // "An offset counts from 0, a position from 1": the one place where the two are converted, and the sums over offsets.
-use coder::words::extent;
+use words::extent;
 use definition::Offset;
 use definition::Position;
 ghost use mathlib.Core.Path.{_≡_};

@@ -23,8 +23,8 @@ use Rattle.definition.specs.declared.Unpacked.{Unpacked}
 use Rattle.laws.proofs.Answers.{same, passed, both-parts}
 use Rattle.laws.proofs.Calls.{into-fits}
 use Rattle.laws.proofs.Traces.{listed, unpack-values}
-use Rattle.fetch.proofs.Numbers.{bind-bind}
-use Rattle.read.specs.Runs.{readAt, Reads, Fits, listInto, listAfter}
+use Rattle.decode.proofs.Numbers.{bind-bind}
+use Rattle.read_pass.specs.Runs.{readAt, Reads, Fits, listInto, listAfter}
 
 -- an offset of data is inside it
 pub offset-inside : (p : ℤ) (len : ℕ) {o : Offset} → accepted o ≡ offsetOf p len → o .0 ≤ len

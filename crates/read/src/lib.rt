@@ -1,12 +1,11 @@
 // Reads the values of a format in data.
-mod pass;
 
-use crate::pass::Total;
-use crate::pass::pass;
+use read_pass::Total;
+use read_pass::pass;
 use align::at_offset;
 use align::start as start_state;
 use definition::Unpacked;
-use format::options::table;
+use options::table;
 use position::Started;
 use position::offset_of;
 use position::position_of;

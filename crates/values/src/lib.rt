@@ -3,7 +3,7 @@ mod reader;
 
 use crate::reader::Reader;
 use coder::reading::get_word;
-use coder::words::to_signed;
+use words::to_signed;
 use fields::HEAD;
 use fields::TAG_FLOAT;
 use fields::TAG_INTEGER;

@@ -20,7 +20,7 @@ use Rattle.definition.specs.Values.{Value, integer, float, text, other, asInteg
 use Rattle.definition.specs.Fields.{inSigned, inUnsigned, floatBy, word}
 use Rattle.definition.specs.declared.Kind.{Kind}
 use Rattle.definition.specs.declared.Kind.the-variants.{SmallSigned, SmallUnsigned, Signed, Unsigned, LuaInteger, LuaUnsigned, Size, Single, Double}
-use Rattle.coder.proofs.Twos.{extent-fits, negative, positive}
+use Rattle.words.proofs.Twos.{extent-fits, negative, positive}
 use Rattle.laws.proofs.Bytes.{pow-le}
 use Rattle.laws.proofs.Numbers.{validSize}
 use Rattle.coder.proofs.Placing.{bits-of-bytes}

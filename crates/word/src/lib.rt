@@ -1,6 +1,6 @@
 // The bits of the integer that a number option writes.
-use coder::words::extent;
-use coder::words::to_word;
+use words::extent;
+use words::to_word;
 use definition::Kind;
 use numbers::Found;
 use numbers::Number;

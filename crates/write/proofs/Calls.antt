@@ -22,12 +22,13 @@ use Rattle.laws.proofs.Calls.{Sound, pack-run, length-record, into-fits}
 use Rattle.laws.proofs.Cutting.{plain-is}
 use Rattle.values.specs.Meaning.{isAccepted}
 use Rattle.values.proofs.Lists.{refused-list}
-use Rattle.write.specs.Answers.{answerOf, continuedCallOf}
-use Rattle.write.specs.Walks.{valuesOf, summed, FitsAt, putAt}
-use Rattle.write.specs.declared.Total.{Total}
-use Rattle.write.specs.declared.Total.the-variants as Total
-use Rattle.write.proofs.Stepping.{list-known}
-use Rattle.write.proofs.Pasting.{paste-whole}
+use Rattle.write.specs.Answers.{continuedCallOf}
+use Rattle.write_pass.specs.Walks.{answerOf}
+use Rattle.write_pass.specs.Walks.{valuesOf, summed, FitsAt, putAt}
+use Rattle.write_pass.specs.declared.Total.{Total}
+use Rattle.write_pass.specs.declared.Total.the-variants as Total
+use Rattle.write_pass.proofs.Stepping.{list-known}
+use Rattle.emit.proofs.Pasting.{paste-whole}
 
 -- what the call makes of a writing
 abbrev called : List ℕ → Checked (Place Value × Output) → Call Continued

@@ -1,5 +1,5 @@
 -- `read_number` meets its contract: the offset after the padding, and there the value.
-use Rattle.fetch.specs.Readings.{Skips}
+use Rattle.fetch.specs.Fetching.{Skips}
 use Rattle.fetch.specs.declared.Skipped.the-variants.{To}
 use Rattle.fetch.proofs.Places.{field-pad-refused, field-after, countable}
 use borrow.Author.Needs.{needs}

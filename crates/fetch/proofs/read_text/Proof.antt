@@ -1,6 +1,6 @@
 -- `read_text` meets its contract: the offset after the padding, and there the value, by the option.
 use Rattle.definition.specs.States.{natural}
-use Rattle.fetch.specs.Readings.{Skips}
+use Rattle.fetch.specs.Fetching.{Skips}
 use Rattle.fetch.specs.declared.Skipped.the-variants.{To}
 use Rattle.fetch.proofs.Places.{field-pad-refused, field-after, countable, zero-ended-left}
 use borrow.Author.Needs.{needs}

@@ -7,7 +7,7 @@ use native.Mathlib.Omega.{arith}
 use lib.IntN.{pos}
 use mir.Facts.{toZ-ofZ}
 use borrow.Author.Needs.{needs}
-use Rattle.coder.proofs.Twos.{extent-fits, negative, positive}
+use Rattle.words.proofs.Twos.{extent-fits, negative, positive}
 use Rattle.definition.specs.Bytes.{extent}
 use Rattle.numbers.proofs.Nearest.{bits, bits-lt, bits-negative}
 use Rattle.numbers.proofs.bits_of.Statement.{statement}

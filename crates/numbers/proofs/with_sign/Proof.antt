@@ -8,7 +8,7 @@ use mir.Syntax.{w64}
 use mir.Facts.{toZ-pos}
 use borrow.Author.Tests.{lt-ltb, le-ltb}
 use borrow.Author.Needs.{needs}
-use Rattle.coder.proofs.Twos.{minus-one-fits, minus-one-is}
+use Rattle.words.proofs.Twos.{minus-one-fits, minus-one-is}
 use Rattle.definition.specs.Values.{withSign}
 use Rattle.numbers.proofs.with_sign.Statement.{statement}
 use Rattle.numbers.proofs.with_sign.Tie as tie

@@ -3,7 +3,7 @@ use mathlib.Core.Path.{_≡_, sym, ap, _∙_}
 use lib.IntN.{pos, negsuc}
 use mir.Facts.{toZ-ofZ}
 use Rattle.definition.specs.Bytes.{extent}
-use Rattle.coder.proofs.Twos.{negative, positive}
+use Rattle.words.proofs.Twos.{negative, positive}
 use Rattle.position.proofs.Starting.{from-the-end, before-the-data, from-the-front, no-position, behind-the-data}
 use borrow.Author.Needs.{needs}
 use Rattle.position.proofs.offset_of.Statement.{statement}

@@ -10,10 +10,10 @@ use Rattle.definition.specs.States.{start}
 use Rattle.definition.specs.Reading.{offsetOf, atOffset}
 use Rattle.laws.proofs.Answers.{true-not-false}
 use Rattle.laws.proofs.Ops.{Sizes, options-sizes}
-use Rattle.format.specs.Packed.{tableAt}
+use Rattle.options.specs.Packed.{tableAt}
 use Rattle.position.specs.Starts.{startedOf}
-use Rattle.fetch.specs.Readings.{Stands}
-use Rattle.read.specs.Runs.{readAt, Reads}
+use Rattle.fetch.specs.Fetching.{Stands}
+use Rattle.read_pass.specs.Runs.{readAt, Reads}
 use Rattle.read.proofs.Calls.{offset-inside, call-outside, call-refused, call-long, call-fits, call-read}
 use borrow.Author.Needs.{needs}
 use Rattle.read.proofs.string_unpack.Statement.{statement}

@@ -7,8 +7,8 @@ use Rattle.laws.proofs.Answers.{true-not-false}
 use Rattle.laws.proofs.Calls.{Sound}
 use Rattle.values.specs.Meaning.{isAccepted}
 use Rattle.laws.proofs.Ops.{Sizes, options-sizes}
-use Rattle.format.specs.Packed.{packed, tableAt}
-use Rattle.format.proofs.Table.{packed-options}
+use Rattle.options.specs.Packed.{packed, tableAt}
+use Rattle.options.proofs.Options.{packed-options}
 use borrow.Author.Tests.{not-true, not-false}
 use Rattle.write.proofs.Calls.{unsound, malformed, total-refused, fits, short-call, filled-call}
 use borrow.Author.Needs.{needs}

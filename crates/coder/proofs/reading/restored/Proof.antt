@@ -9,7 +9,7 @@ use mir.Syntax.{w64}
 use Rattle.definition.specs.Bytes.{low}
 use Rattle.laws.proofs.Bytes.{pow-pos}
 use Rattle.coder.proofs.Placing.{shifted-one}
-use Rattle.coder.proofs.Twos.{restored-is}
+use Rattle.words.proofs.Twos.{restored-is}
 use borrow.Author.Needs.{needs, sfits-of}
 use Rattle.coder.proofs.reading.restored.Statement.{statement}
 use Rattle.coder.proofs.reading.restored.Tie as tie

@@ -1,6 +1,6 @@
 -- Each arm is one case of the definition.
 use borrow.Author.Tests.{ne-eqb}
-use Rattle.format.specs.Packed.{plainAt}
+use Rattle.options.specs.Packed.{plainAt}
 use Rattle.format.proofs.cursor.plain.Statement.{statement}
 use Rattle.format.proofs.cursor.plain.Tie as tie
 

@@ -7,7 +7,7 @@ use Rattle.definition.specs.declared.State.{State}
 use Rattle.definition.specs.Bound.{boundOp, bounding, bound}
 use Rattle.definition.specs.Ops.{ops}
 use Rattle.definition.specs.States.{start}
-use Rattle.format.specs.Packed.{tableAt}
+use Rattle.options.specs.Packed.{tableAt}
 use Rattle.measure.proofs.Runs.{Ran, run-none, run-end, run-refusal, run-less, run-refused, run-on}
 use Rattle.measure.proofs.bound.bound_by.Statement.{statement}
 use Rattle.measure.proofs.bound.bound_by.Tie as tie

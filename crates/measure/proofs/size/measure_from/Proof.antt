@@ -3,7 +3,7 @@ use Prim.Native.Nat.{_-_}
 use mathlib.Core.Path.{refl}
 use lib.ListN.{length}
 use Rattle.definition.specs.Measuring.{measureOp, measureFrom}
-use Rattle.format.specs.Packed.{tableAt}
+use Rattle.options.specs.Packed.{tableAt}
 use Rattle.measure.proofs.Runs.{Ran, run-none, run-end, run-refusal, run-less, run-refused, run-on}
 use Rattle.measure.proofs.size.measure_from.Statement.{statement}
 use Rattle.measure.proofs.size.measure_from.Tie as tie

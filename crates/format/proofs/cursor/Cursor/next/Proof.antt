@@ -5,13 +5,13 @@ use native.Mathlib.Omega.{arith}
 use borrow.Author.Needs.{needs}
 use denote.Ref.{now}
 use lib.ListN.{drop, length-drop}
-use Rattle.format.specs.Operands.{operandOf}
-use Rattle.format.specs.Packed.{entryAt, tableAt}
+use Rattle.operand.specs.Operands.{operandOf}
+use Rattle.options.specs.Packed.{entryAt, tableAt}
 use Rattle.format.specs.Steps.{nextAt}
-use Rattle.format.specs.declared.operand.Operand.{Operand}
-use Rattle.format.specs.declared.operand.Operand.the-variants as Operand
+use Rattle.operand.specs.declared.Operand.{Operand}
+use Rattle.operand.specs.declared.Operand.the-variants as Operand
 use Rattle.format.proofs.Cursors.{stepOf, next-end, next-step}
-use Rattle.format.proofs.Operands.{operand-count}
+use Rattle.operand.proofs.Operands.{operand-count}
 use Rattle.format.proofs.cursor.Cursor.next.Statement.{statement}
 use Rattle.format.proofs.cursor.Cursor.next.Tie as tie
 

@@ -2,7 +2,7 @@
 use mathlib.Core.Path.{_∙_}
 use borrow.Author.Needs.{needs}
 use Rattle.format.proofs.Cursors.{plain-op, align-op}
-use Rattle.format.proofs.Entries.{at-fixed, at-plain, at-signed, at-unsigned, at-counted, at-chars, at-limit}
+use Rattle.operand.proofs.Entries.{at-fixed, at-plain, at-signed, at-unsigned, at-counted, at-chars, at-limit}
 use Rattle.format.proofs.cursor.Item.op.Statement.{statement}
 use Rattle.format.proofs.cursor.Item.op.Tie as tie
 
