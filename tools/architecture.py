@@ -35,34 +35,39 @@ text { fill: #f0f6fc }
 
 # class, left, top, width, height, name, lines
 BOXES = [
-    ("definition", 20, 60, 146, 496, "definition", [
-        "specs/: what each call", "gives, a file for each", "part, and the claims", "",
+    ("definition", 20, 60, 146, 258, "definition", [
+        "specs/: what each call", "gives, a file for each", "part, with tables", "",
         "src/: the types that", "specs and code share", "",
-        "proofs/: proofs of the", "claims, and laws that", "the code's proofs cite", "", "",
         "Each contract to the", "right says that the", "answer and the lent", "bytes are what a",
         "definition here gives."]),
-    ("proved", 186, 146, 130, 248, "format", [
-        "hands out one item", "after the other:", "the option table,", "a cursor by value,", "operands", "", "", "", "", ""]),
-    ("leaf", 198, 316, 106, 64, "numeral", ["digits, by", "recursion"]),
+    ("definition", 20, 338, 146, 218, "laws", [
+        "specs/: the claims,", "that measuring, writing", "and reading agree", "",
+        "proofs/: their proofs,", "and laws that the", "code's proofs cite"]),
+    ("proved", 186, 146, 130, 260, "format", [
+        "hands out one item", "after the other, by", "a cursor by value"]),
+    ("leaf", 198, 226, 106, 48, "options", ["the option table"]),
+    ("leaf", 198, 282, 106, 48, "operand", ["size, limit, X"]),
+    ("leaf", 198, 338, 106, 58, "numeral", ["digits, by", "recursion"]),
     ("proved", 356, 236, 130, 68, "plan", ["what writing puts", "for an item"]),
-    ("leaf", 356, 60, 130, 58, "word", ["a number's bits,", "12 and 13; for plan"]),
+    ("leaf", 186, 60, 80, 58, "word", ["for plan:", "12 and 13"]),
+    ("leaf", 276, 60, 80, 58, "decode", ["for fetch:", "17 to 20"]),
     ("proved", 356, 326, 130, 68, "fetch", ["what reading takes", "for an item"]),
     ("proved", 526, 146, 130, 68, "measure", ["string_packsize,", "list_bound"]),
-    ("proved", 526, 236, 130, 68, "write", ["string_pack,", "pack_continued"]),
-    ("proved", 526, 326, 130, 68, "read", ["string_unpack"]),
+    ("proved", 526, 236, 130, 78, "write", ["string_pack,", "pack_continued;", "write_pass, emit"]),
+    ("proved", 526, 326, 130, 68, "read", ["string_unpack;", "read_pass"]),
     ("proved", 696, 146, 110, 248, "digribbon", [
         "the calls", "under C names:", "0, or a refusal's", "number"]),
     ("host", 846, 146, 114, 68, "C", ["header, example"]),
     ("host", 846, 236, 114, 68, "Rust", ["crate, and a", "pack.rs for lua-rs"]),
     ("host", 846, 326, 114, 68, "Lua", ["module"]),
-    ("proved", 366, 60, 190, 58, "agreement", ["the claims, as contracts;", "over measure, write, read"]),
+    ("proved", 376, 60, 180, 58, "agreement", ["calls made in turn, by", "measure, write and read"]),
     ("proved", 696, 60, 110, 58, "line", ["the line printed"]),
     ("proved", 846, 60, 114, 58, "packsize", ["the program"]),
     ("leaf", 186, 452, 118, 104, "align", ["the state, padding;", "for format,", "measure, plan,", "fetch, write, read"]),
-    ("leaf", 318, 452, 118, 104, "values, fields", ["the value list, read", "and written; for", "numbers, word, plan,", "write, read"]),
+    ("leaf", 318, 452, 118, 104, "values, fields", ["the value list;", "for numbers, word,", "plan, write, read"]),
     ("leaf", 450, 452, 118, 104, "numbers", ["a value as integer", "or as number;", "for word"]),
-    ("leaf", 582, 452, 118, 104, "single", ["f64 to f32, and", "back; for word,", "numbers, fetch"]),
-    ("leaf", 714, 452, 118, 104, "coder", ["integers as bytes;", "for values, word,", "numbers, position,", "fetch, write"]),
+    ("leaf", 582, 452, 118, 104, "single", ["f64 to f32, and", "back; for word,", "numbers, decode"]),
+    ("leaf", 714, 452, 118, 104, "coder, words", ["integers as bytes;", "for values, word,", "numbers, position,", "decode, emit"]),
     ("leaf", 846, 452, 114, 104, "position", ["starts, offsets,", "positions; for", "fetch, read"]),
 ]
 

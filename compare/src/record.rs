@@ -1,5 +1,5 @@
-//! The original's answers to a fixed list of calls, as the text that our program `replay` reads: crates/replay/src/main.rt
-//! begins with its form, crates/notation/src/lib.rt with that of bytes.
+//! The original's answers to a fixed list of calls, as the text that our program `conformance` reads: its src/recorded.rt
+//! begins with their form, its src/reader.rt with that of bytes.
 //!
 //! A replay compares refusals only as refusals. No case has a NaN from reading f, so all else is the same to the bit.
 
@@ -17,7 +17,7 @@ use std::slice;
 
 const HEADER: &str = "\
 # Recorded answers of the original, crates/luars/src/stdlib/string/pack.rs of lua-rs, unchanged.
-# Made by: compare/run record crates/replay/stdin
+# Made by: compare/run record FILE, then tools/section r <FILE
 ";
 
 pub fn run(path: &str) -> ExitCode {

@@ -1,10 +1,10 @@
 // The calls' answers as numbers.
-use words::to_signed;
 use measure::Measured;
 use measure::list_bound;
 use measure::string_packsize;
 use read::Unpacking;
 use read::string_unpack;
+use words::to_signed;
 use write::Packed;
 use write::string_pack;
 

@@ -1,7 +1,5 @@
 // Floats: as_integer, as_number and T.
 use crate::vector::Vector;
-use words::to_signed;
-use words::to_word;
 use numbers::Found;
 use numbers::Number;
 use numbers::as_integer;
@@ -10,6 +8,8 @@ use numbers::as_wrapped;
 use single::to_single;
 use values::Field;
 use values::Value;
+use words::to_signed;
+use words::to_word;
 ghost use Rattle.values.specs.Meaning.{Proper};
 
 // The float of 64 bits, written into a value list and read from it.

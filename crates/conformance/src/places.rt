@@ -7,7 +7,7 @@ use position::Started;
 
 // A start in data of a length: the position that it means, or refused.
 pub fn is_start(v: Vector) -> bool {
-    match position::offset_of(coder::words::to_signed(v.a), v.b as usize) {
+    match position::offset_of(words::to_signed(v.a), v.b as usize) {
         Started::At(o) => {
             if o.0 == u64::MAX {
                 return false;

@@ -30,8 +30,8 @@ use crate::show::print_named;
 use align::start;
 use definition::Continued;
 use definition::State;
-use write_pass::Total;
 use write::pack_continued;
+use write_pass::Total;
 
 // A refusal, or a number.
 fn print_answer(a: Answer) {

@@ -16,11 +16,11 @@ use crate::reader::peek;
 use crate::show::word_at;
 use align::is_sound;
 use align::state;
-use words::sign_byte;
-use words::to_signed;
 use single::from_single;
 use single::to_single;
 use values::is_list;
+use words::sign_byte;
+use words::to_signed;
 
 pub struct Vector {
     pub group: u8,

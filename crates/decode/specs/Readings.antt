@@ -8,7 +8,6 @@ use lib.ListN.{length, take, drop}
 use Rattle.definition.specs.Answers.{Checked, refused, accepted}
 use Rattle.definition.specs.Values.{Value, integer, float, text}
 use Rattle.definition.specs.Fields.{upToZero, decode}
-use Rattle.definition.specs.Reading.{offset}
 use Rattle.definition.specs.declared.Offset.{Offset}
 use Rattle.definition.specs.declared.Field.{Field}
 use Rattle.definition.specs.declared.Field.the-variants.{Number, Chars, ZeroEnded, Counted}

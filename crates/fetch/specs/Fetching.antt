@@ -1,5 +1,5 @@
 -- What an item does in reading, in the definition's terms.
-use Prim.Native.Nat.{ℕ, _+_, _-_, _^_, _<_}
+use Prim.Native.Nat.{ℕ, _+_, _^_, _<_}
 use mathlib.Core.Path.{_≡_}
 use mathlib.Core.List.{List, [], _∷_}
 use Rattle.definition.specs.Answers.{Checked, refused, accepted}

@@ -1,17 +1,17 @@
 // What one item does to the state and reads of the data, or its refusal.
 
-use decode::Decoded;
-use decode::Reading;
-use decode::counted;
-use decode::number;
-use decode::text;
-use decode::zero_ended;
 use align::Amount;
 use align::at_offset;
 use align::natural;
 use align::offset_in;
 use align::padding;
 use align::set;
+use decode::Decoded;
+use decode::Reading;
+use decode::counted;
+use decode::number;
+use decode::text;
+use decode::zero_ended;
 use definition::Field;
 use definition::Kind;
 use definition::Offset;

@@ -1,7 +1,7 @@
 // Writes the fields of a value list: a tag, a length in two bytes, big-endian, and content.
-use words::to_word;
 use coder::writing::put;
 use coder::writing::put_copy;
+use words::to_word;
 ghost use mathlib.Core.Path.{_≡_};
 ghost use mathlib.Core.List.{[], _∷_, _++_};
 ghost use Prim.Native.Nat.{_+_, _≤_};

@@ -1,4 +1,8 @@
 // Reads the items of a format, one after the other.
+use definition::Field;
+use definition::Kind;
+use definition::Op;
+use definition::Setting;
 use operand::Operand;
 use operand::operand_at;
 use options::CHARS_END;
@@ -10,10 +14,6 @@ use options::SIGNED_END;
 use options::UNSIGNED_END;
 use options::entry;
 use options::kind_of;
-use definition::Field;
-use definition::Kind;
-use definition::Op;
-use definition::Setting;
 ghost use mathlib.Core.Path.{_≡_};
 ghost use lib.ListN.{drop};
 ghost use Rattle.laws.proofs.Ops.{Sizes};

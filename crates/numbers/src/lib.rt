@@ -1,6 +1,6 @@
 // The integer of a value, its number, and T of its float.
-use words::extent;
 use single::nearest;
+use words::extent;
 ghost use mathlib.Core.Path.{_≡_};
 ghost use mathlib.Core.Bool.{true};
 ghost use mathlib.Core.List.{List};

@@ -1,4 +1,10 @@
 // The operand of an option: its size, limit, length or alignment, by its numeral or without one.
+use align::is_power;
+use numeral::Scan;
+use numeral::Short;
+use numeral::peek;
+use numeral::read;
+use numeral::skip_digits;
 use options::ALIGN_END;
 use options::CHARS_END;
 use options::COUNTED_END;
@@ -9,12 +15,6 @@ use options::SINGLE;
 use options::UNSIGNED_END;
 use options::entry;
 use options::size_of;
-use align::is_power;
-use numeral::Scan;
-use numeral::Short;
-use numeral::peek;
-use numeral::read;
-use numeral::skip_digits;
 ghost use mathlib.Core.Path.{_≡_};
 ghost use Prim.Native.Nat.{_≤_, _<_};
 ghost use lib.ListN.{length, drop};

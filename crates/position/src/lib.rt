@@ -1,7 +1,7 @@
 // "An offset counts from 0, a position from 1": the one place where the two are converted, and the sums over offsets.
-use words::extent;
 use definition::Offset;
 use definition::Position;
+use words::extent;
 ghost use mathlib.Core.Path.{_≡_};
 ghost use Prim.Native.Nat.{_+_, _-_, _≤_, _<_, _^_};
 ghost use Rattle.definition.specs.Reading.{offsetOf, positionOf};

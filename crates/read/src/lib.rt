@@ -1,7 +1,5 @@
 // Reads the values of a format in data.
 
-use read_pass::Total;
-use read_pass::pass;
 use align::at_offset;
 use align::start as start_state;
 use definition::Unpacked;
@@ -9,6 +7,8 @@ use options::table;
 use position::Started;
 use position::offset_of;
 use position::position_of;
+use read_pass::Total;
+use read_pass::pass;
 ghost use mathlib.Core.Path.{_≡_};
 ghost use Rattle.definition.specs.Calls.{stringUnpack};
 ghost use Rattle.read.specs.Answers.{callOf};

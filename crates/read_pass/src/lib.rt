@@ -2,10 +2,10 @@
 use align::at_offset;
 use align::offset_in;
 use align::parts;
+use decode::Reading;
 use definition::Offset;
 use definition::State;
 use fetch::Fetched;
-use decode::Reading;
 use fetch::read_op;
 use fields::put_float;
 use fields::put_integer;

@@ -1,6 +1,4 @@
 // The bits of the integer that a number option writes.
-use words::extent;
-use words::to_word;
 use definition::Kind;
 use numbers::Found;
 use numbers::Number;
@@ -9,6 +7,8 @@ use numbers::as_number;
 use numbers::as_wrapped;
 use single::to_single;
 use values::Value;
+use words::extent;
+use words::to_word;
 ghost use mathlib.Core.Path.{_≡_};
 ghost use mathlib.Core.List.{List};
 ghost use mathlib.Core.Option.{some};

@@ -1,12 +1,12 @@
 // Writing: the values of a list, by a format, into a lent buffer.
 
-use write_pass::Total;
-use write_pass::pass;
 use align::is_sound;
 use align::start;
 use definition::State;
 use options::OPTIONS;
 use values::is_list;
+use write_pass::Total;
+use write_pass::pass;
 ghost use mathlib.Core.Path.{_≡_};
 ghost use Rattle.definition.specs.Calls.{packContinued, stringPack};
 ghost use Rattle.write.specs.Answers.{continuedCallOf, packedCallOf};

@@ -1,12 +1,12 @@
 // A pass over a format: every check, the totals, and where it is asked for, the record.
-use emit::emit_number;
-use emit::emit_text;
-use emit::emit_zeros;
 use align::further;
 use align::set;
 use definition::Continued;
 use definition::Op;
 use definition::State;
+use emit::emit_number;
+use emit::emit_text;
+use emit::emit_zeros;
 use format::cursor::Cursor;
 use format::cursor::Next;
 use plan::item::Plan;
