@@ -21,8 +21,8 @@ use Rattle.definition.specs.declared.Unpacked.{Unpacked}
 use Rattle.laws.proofs.Answers.{never, same, same-number}
 use Rattle.laws.proofs.Demand.{demand}
 use Rattle.measure.specs.Measured.{measuredOf}
-use Rattle.measure.specs.declared.size.Measured.{Measured}
-use Rattle.measure.specs.declared.size.Measured.the-variants as Measured
+use Rattle.measure.specs.declared.Measured.{Measured}
+use Rattle.measure.specs.declared.Measured.the-variants as Measured
 use Rattle.read.specs.Answers.{callOf}
 use Rattle.read.specs.declared.Unpacking.{Unpacking}
 use Rattle.read.specs.declared.Unpacking.the-variants as Unpacking

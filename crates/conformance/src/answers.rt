@@ -1,6 +1,6 @@
 // The calls' answers as numbers.
+use bound::list_bound;
 use measure::Measured;
-use measure::list_bound;
 use measure::string_packsize;
 use read::Unpacking;
 use read::string_unpack;

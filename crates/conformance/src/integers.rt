@@ -1,9 +1,9 @@
 // Integers in bytes.
 use crate::vector::Vector;
-use coder::reading::Signed;
-use coder::reading::Unsigned;
-use coder::reading::get_signed;
-use coder::reading::get_unsigned;
+use load::Signed;
+use load::Unsigned;
+use load::get_signed;
+use load::get_unsigned;
 use words::to_signed;
 use words::to_word;
 ghost use Prim.Native.Nat.{_≤_};
@@ -13,7 +13,7 @@ pub fn is_written(v: Vector, data: &[u8], fill: u8) -> bool
     requires { ⌜ v .size ≤ 16 ⌝ }
 {
     let mut out = [0u8; 16];
-    coder::writing::put(&mut out, 0, v.size, v.big, v.a, fill);
+    store::put(&mut out, 0, v.size, v.big, v.a, fill);
     check::same(&out, data)
 }
 

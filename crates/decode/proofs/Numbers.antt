@@ -20,8 +20,8 @@ use Rattle.definition.specs.declared.Offset.{Offset}
 use Rattle.definition.specs.declared.Field.{Field}
 use Rattle.definition.specs.declared.Field.the-variants as Field
 use Rattle.definition.proofs.Kind.{the-type}
-use Rattle.coder.specs.Digits.{lowBytes}
-use Rattle.coder.specs.Numbers.{unsignedAt, signedAt}
+use Rattle.words.specs.Digits.{lowBytes}
+use Rattle.load.specs.Numbers.{unsignedAt, signedAt}
 use Rattle.laws.proofs.Bytes.{number-is}
 use Rattle.decode.specs.Readings.{from, valueOf, Inside, Decodes}
 use Rattle.decode.specs.declared.Reading.{Reading}

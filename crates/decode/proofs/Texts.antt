@@ -14,7 +14,7 @@ use Rattle.definition.specs.Fields.{first, short, upToZero, number, unsigned, d
 use Rattle.definition.specs.Reading.{offset}
 use Rattle.definition.specs.declared.Offset.{Offset}
 use Rattle.definition.specs.declared.Field.the-variants as Field
-use Rattle.coder.specs.Numbers.{unsignedAt}
+use Rattle.load.specs.Numbers.{unsignedAt}
 use Rattle.decode.specs.Readings.{from, Within, Decodes, ZeroFrom}
 use Rattle.decode.specs.declared.Reading.{Reading}
 use Rattle.decode.specs.declared.Reading.the-variants.{Text}

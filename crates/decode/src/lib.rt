@@ -1,11 +1,11 @@
 // The value of a field's bytes: 17, then 18 or 19, then 20.
-use coder::reading::Signed;
-use coder::reading::Unsigned;
-use coder::reading::get_signed;
-use coder::reading::get_unsigned;
-use coder::reading::get_word;
 use definition::Kind;
 use definition::Offset;
+use load::Signed;
+use load::Unsigned;
+use load::get_signed;
+use load::get_unsigned;
+use load::get_word;
 use position::further;
 use position::left;
 use single::from_single;

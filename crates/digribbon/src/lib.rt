@@ -1,7 +1,7 @@
 // The calls under C names. Each returns 0 and fills its answer, or returns a refusal's number and changes nothing.
 use align::state;
+use bound::list_bound;
 use measure::Measured;
-use measure::list_bound;
 use measure::string_packsize;
 use read::Unpacking;
 use read::string_unpack;

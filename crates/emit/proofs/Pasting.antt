@@ -8,7 +8,7 @@ use mathlib.Core.List.{List, [], _++_, append-assoc}
 use lib.ListN.{length, drop, replicate, length-append, length-replicate}
 use lib.Seq.{paste, length-paste}
 use Rattle.definition.specs.Bytes.{laid}
-use Rattle.coder.proofs.Pasting.{paste-on, paste-front}
+use Rattle.store.proofs.Pasting.{paste-on, paste-front}
 use Rattle.laws.proofs.Bytes.{length-laid}
 
 -- y put at the front

@@ -1,7 +1,7 @@
 // Puts the bytes of an item into the record, where `put` asks for it.
-use coder::writing::put as put_integer;
-use coder::writing::put_copy;
-use coder::writing::put_zeros;
+use store::put as put_integer;
+use store::put_copy;
+use store::put_zeros;
 ghost use mathlib.Core.Path.{_≡_};
 ghost use mathlib.Core.Bool.{true, cond};
 ghost use mathlib.Core.List.{_++_};

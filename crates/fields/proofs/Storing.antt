@@ -10,7 +10,7 @@ use Rattle.definition.specs.Bytes.{bits}
 use Rattle.definition.specs.Lists.{big, listOf}
 use Rattle.definition.specs.Values.{integer, float, text}
 use Rattle.laws.proofs.Lists.{length-big}
-use Rattle.coder.proofs.Pasting.{set-paste, paste-on, paste-before}
+use Rattle.store.proofs.Pasting.{set-paste, paste-on, paste-before}
 
 -- ---- the fields in the definition's terms
 pub integer-field : (z : ℤ) → 1 ∷ big 2 8 ++ big 8 (bits z) ≡ listOf (integer z ∷ [])

@@ -1,6 +1,6 @@
 // Writes the fields of a value list: a tag, a length in two bytes, big-endian, and content.
-use coder::writing::put;
-use coder::writing::put_copy;
+use store::put;
+use store::put_copy;
 use words::to_word;
 ghost use mathlib.Core.Path.{_≡_};
 ghost use mathlib.Core.List.{[], _∷_, _++_};

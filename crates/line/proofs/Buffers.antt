@@ -10,7 +10,7 @@ use lib.Seq.{paste, length-paste, take-length}
 use borrow.Author.Tests.{lt-ltb, le-ltb}
 use borrow.Table.Steps.{cases}
 use Rattle.definition.specs.Program.{decimalIn, decimal}
-use Rattle.coder.proofs.Pasting.{set-paste, paste-on}
+use Rattle.store.proofs.Pasting.{set-paste, paste-on}
 
 -- ---- a text after a text
 abbrev pub put : List ℕ → ℕ → List ℕ → List ℕ

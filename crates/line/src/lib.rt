@@ -1,7 +1,7 @@
 // The program's answer to an input, as a line.
-use coder::writing::put_copy;
 use measure::Measured;
 use measure::string_packsize;
+use store::put_copy;
 ghost use mathlib.Core.Path.{_≡_};
 ghost use Prim.Native.Nat.{_+_, _≤_, _<_};
 ghost use mathlib.Core.Bool.{true};

@@ -21,7 +21,7 @@ use Rattle.definition.specs.declared.Op.{Op}
 use Rattle.laws.proofs.Answers.{never, after-accepted}
 use Rattle.laws.proofs.Lists.{list-append}
 use Rattle.format.specs.Steps.{nextAt}
-use Rattle.coder.proofs.Pasting.{paste-front}
+use Rattle.store.proofs.Pasting.{paste-front}
 use Rattle.decode.specs.Readings.{valueOf, Inside}
 use Rattle.fetch.specs.Fetching.{Stands, placeIn, FetchedStands, Fetches}
 use Rattle.decode.specs.declared.Reading.{Reading}

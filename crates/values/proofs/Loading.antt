@@ -1,4 +1,4 @@
--- A number of at most eight bytes in a list, the highest first, as the coder reads it.
+-- A number of at most eight bytes in a list, the highest first, as `load` reads it.
 use Prim.Native.Nat.{ℕ, _+_, _^_, _≤_, _<_}
 use mathlib.Core.Path.{_≡_, ap, _∙_}
 use mathlib.Core.Bool.{true}
@@ -8,7 +8,7 @@ use lib.ListN.{length, take, drop, length-reverse}
 use lib.Seq.{take-all}
 use Rattle.definition.specs.Bytes.{total, low}
 use Rattle.laws.proofs.Bytes.{length-part}
-use Rattle.coder.specs.Digits.{lowBytes}
+use Rattle.words.specs.Digits.{lowBytes}
 use Rattle.values.specs.Loading.{Loaded}
 
 pub loaded : (l : List ℕ) (at n r : ℕ) → n ≤ 8 → at + n ≤ length l → (r ≡ total (lowBytes true n (drop at l))) × (r < 256 ^ low n) → Loaded l at n r

@@ -2,12 +2,12 @@
 mod reader;
 
 use crate::reader::Reader;
-use coder::reading::get_word;
 use fields::HEAD;
 use fields::TAG_FLOAT;
 use fields::TAG_INTEGER;
 use fields::TAG_OTHER;
 use fields::TAG_TEXT;
+use load::get_word;
 use words::to_signed;
 ghost use mathlib.Core.Path.{_≡_};
 ghost use mathlib.Core.Bool.{true};

@@ -23,7 +23,7 @@ use Rattle.definition.specs.declared.Kind.the-variants.{SmallSigned, SmallUnsig
 use Rattle.words.proofs.Twos.{extent-fits, negative, positive}
 use Rattle.laws.proofs.Bytes.{pow-le}
 use Rattle.laws.proofs.Numbers.{validSize}
-use Rattle.coder.proofs.Placing.{bits-of-bytes}
+use Rattle.words.proofs.Placing.{bits-of-bytes}
 use Rattle.single.specs.Single.{toSingle}
 use Rattle.numbers.specs.Meaning.{wrappedFloat}
 use Rattle.word.specs.Words.{fillOf, Says, patternOr, rangedOr}

@@ -1,6 +1,8 @@
-// Integers and their 64 bits, two's complement.
+// Integers and their 64 bits, in two's complement, and where their bytes stand.
 ghost use mathlib.Core.Path.{_≡_};
+ghost use Prim.Native.Nat.{_<_};
 ghost use Rattle.definition.specs.Bytes.{bits, sign, extent, signed};
+ghost use Rattle.words.specs.Digits.{placeOf};
 
 // n for n, and n for -1 - n.
 pub fn extent(x: i64) -> u64
@@ -38,4 +40,12 @@ pub fn sign_byte(x: i64) -> u8
     ensures { λ r. ⌜ r ≡ sign x ⌝ }
 {
     if x < 0 { 255 } else { 0 }
+}
+
+// Where the byte k of an integer, counted from its lowest, stands among its bytes.
+pub fn place(big: bool, size: usize, k: usize) -> usize
+    requires { ⌜ k < size ⌝ }
+    ensures { λ r. ⌜ (r ≡ placeOf big size k) × (r < size) ⌝ }
+{
+    if big { size - 1 - k } else { k }
 }

@@ -28,7 +28,7 @@ use Rattle.format.specs.Steps.{nextAt}
 use Rattle.format.proofs.Walking.{Walked, valid, ahead, walk-none, walk-end, walk-refusal, walk-refused, walk-on}
 use Rattle.write_pass.specs.Walks.{valuesOf, summed, FitsAt, putAt, totalsOf, written, Moved}
 use Rattle.write_pass.specs.declared.Progress.{Progress}
-use Rattle.coder.proofs.Pasting.{paste-front}
+use Rattle.store.proofs.Pasting.{paste-front}
 use Rattle.emit.proofs.Pasting.{paste-whole}
 
 abbrev progress : State → ℕ → ℕ → ℕ → Progress

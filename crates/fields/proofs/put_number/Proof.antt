@@ -1,4 +1,4 @@
--- `put_number` meets its contract: the coder's bytes, in this order and up to eight, are those of a number.
+-- `put_number` meets its contract: the stored bytes, in this order and up to eight, are those of a number.
 use Rattle.laws.proofs.Lists.{laid-big}
 use borrow.Author.Needs.{needs}
 use Rattle.fields.proofs.put_number.Statement.{statement}

@@ -7,8 +7,8 @@ use Rattle.line.specs.Lines.{numberLine}
 use Rattle.definition.specs.Program.{line, printed}
 use Rattle.line.proofs.Inputs.{printed-is}
 use Rattle.measure.specs.Measured.{measuredOf}
-use Rattle.measure.specs.declared.size.Measured.{Measured}
-use Rattle.measure.specs.declared.size.Measured.the-variants.{Refused, Size}
+use Rattle.measure.specs.declared.Measured.{Measured}
+use Rattle.measure.specs.declared.Measured.the-variants.{Refused, Size}
 use Rattle.line.proofs.answer_line.Statement.{statement}
 use Rattle.line.proofs.answer_line.Tie as tie
 

@@ -1,4 +1,4 @@
--- `number_at` meets its contract: the coder's word, in this order and up to eight bytes, is their number.
+-- `number_at` meets its contract: the loaded word, in this order and up to eight bytes, is their number.
 use denote.Ref.{now}
 use Rattle.values.proofs.Loading.{loaded}
 use borrow.Author.Needs.{needs}

@@ -1,3 +1,0 @@
-pub mod Placing
-pub mod Pasting
-pub mod Gathering
