@@ -1,4 +1,4 @@
-// The types that the definitions and the code share. The definitions of document 01 are in specs/.
+// The types that the definitions and the code share, and the tags of the value list. The definitions of document 01 are in specs/.
 
 // Which values a number option takes, and what it makes of them.
 pub enum Kind {
@@ -70,3 +70,14 @@ pub struct Unpacked {
     pub length: u64,
     pub next: Position,
 }
+
+// The tags of a value list's fields, and the number of bytes before a field's content.
+pub const TAG_OTHER: u8 = 0;
+
+pub const TAG_INTEGER: u8 = 1;
+
+pub const TAG_FLOAT: u8 = 2;
+
+pub const TAG_TEXT: u8 = 3;
+
+pub const HEAD: usize = 3;

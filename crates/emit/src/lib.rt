@@ -9,7 +9,7 @@ ghost use Prim.Native.Nat.{_+_, _≤_};
 ghost use lib.ListN.{length, replicate};
 ghost use lib.Seq.{paste};
 ghost use Rattle.definition.specs.Bytes.{laid};
-ghost use Rattle.plan.specs.Plans.{textBytes};
+ghost use Rattle.store.specs.Texts.{textBytes};
 ghost use Rattle.word.specs.Words.{fillOf};
 
 // The byte above a word's eight.

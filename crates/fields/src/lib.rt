@@ -1,4 +1,8 @@
 // Writes the fields of a value list: a tag, a length in two bytes, big-endian, and content.
+use definition::HEAD;
+use definition::TAG_FLOAT;
+use definition::TAG_INTEGER;
+use definition::TAG_TEXT;
 use store::put;
 use store::put_copy;
 use words::to_word;
@@ -9,17 +13,6 @@ ghost use lib.ListN.{length, take, drop};
 ghost use lib.Seq.{paste};
 ghost use Rattle.definition.specs.Values as definition;
 ghost use Rattle.definition.specs.Lists.{big, listOf};
-
-// The tags, and the number of bytes before a field's content.
-pub const TAG_OTHER: u8 = 0;
-
-pub const TAG_INTEGER: u8 = 1;
-
-pub const TAG_FLOAT: u8 = 2;
-
-pub const TAG_TEXT: u8 = 3;
-
-pub const HEAD: usize = 3;
 
 // The n lowest bytes of a number, the highest first.
 fn put_number(out: &mut [u8], at: usize, n: usize, v: u64)

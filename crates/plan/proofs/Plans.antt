@@ -38,7 +38,8 @@ use Rattle.values.specs.declared.Value.{Value}
 use Rattle.values.proofs.Fields.{takes-none, takes-first}
 use Rattle.word.specs.Words.{fillOf, Says}
 use Rattle.plan.specs.Texts.{firstText, TextAt, TextRead}
-use Rattle.plan.specs.Plans.{textBytes, wrote, Encoded, Wrote, Padded, ItemPlan, ItemAt, NumberPlan, TextPlan}
+use Rattle.store.specs.Texts.{textBytes}
+use Rattle.plan.specs.Plans.{wrote, Encoded, Wrote, Padded, ItemPlan, ItemAt, NumberPlan, TextPlan}
 use Rattle.plan.specs.declared.item.Plan.{Plan}
 use Rattle.plan.specs.declared.item.Plan.the-variants as Plan
 use Rattle.plan.specs.declared.text.Text.the-variants as Text

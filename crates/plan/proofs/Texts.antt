@@ -32,7 +32,7 @@ use Rattle.values.specs.declared.Value.the-variants as Value
 use Rattle.values.proofs.Fields.{takes-none, takes-first}
 use Rattle.values.proofs.Value.{the-type}
 use Rattle.plan.specs.Texts.{firstText, TextOf, TextAt, TextRead}
-use Rattle.plan.specs.Plans.{textBytes}
+use Rattle.store.specs.Texts.{textBytes}
 use Rattle.plan.specs.declared.text.Text.{Text}
 use Rattle.plan.specs.declared.text.Text.the-variants as Text
 

@@ -1,9 +1,8 @@
 -- What a plan says of an item: what writing does at a state, with the values of the list from a field on.
 use Prim.Native.Nat.{ℕ, _+_, _-_, _^_, _≤_}
 use mathlib.Core.Path.{_≡_}
-use mathlib.Core.Bool.{Bool}
 use mathlib.Core.List.{List, [], _∷_, _++_, map}
-use lib.ListN.{length, take, drop, replicate}
+use lib.ListN.{length, drop}
 use Rattle.definition.specs.Answers.{Checked, refused, accepted}
 use Rattle.definition.specs.Bytes.{laid}
 use Rattle.definition.specs.Fields.{encode}
@@ -19,13 +18,10 @@ use Rattle.definition.specs.declared.Op.{Op}
 use Rattle.definition.specs.declared.Op.the-variants as Op
 use Rattle.values.specs.Meaning.{meaning}
 use Rattle.values.specs.declared.Value.{Value}
+use Rattle.store.specs.Texts.{textBytes}
 use Rattle.word.specs.Words.{fillOf}
 use Rattle.plan.specs.declared.item.Plan.{Plan}
 use Rattle.plan.specs.declared.item.Plan.the-variants.{Refused, Skip, Set, Zeros, Number, Text}
-
--- the bytes of a text: its length in n bytes, the text, zeros
-abbrev pub textBytes : Bool → List ℕ → ℕ → ℕ → ℕ → ℕ → List ℕ
-textBytes o l n start len zeros = laid o n len 0 ++ (take len (drop start l) ++ replicate zeros 0)
 
 -- what the item op gives, written at the state s with the values vs
 abbrev pub wrote : State → List definition.Value → Op → Checked (Place definition.Value × Output)

@@ -2,11 +2,11 @@
 mod reader;
 
 use crate::reader::Reader;
-use fields::HEAD;
-use fields::TAG_FLOAT;
-use fields::TAG_INTEGER;
-use fields::TAG_OTHER;
-use fields::TAG_TEXT;
+use definition::HEAD;
+use definition::TAG_FLOAT;
+use definition::TAG_INTEGER;
+use definition::TAG_OTHER;
+use definition::TAG_TEXT;
 use load::get_word;
 use words::to_signed;
 ghost use mathlib.Core.Path.{_≡_};

@@ -17,7 +17,8 @@ use Rattle.definition.specs.declared.State.{State}
 use Rattle.definition.specs.declared.Setting.{Setting}
 use Rattle.definition.specs.declared.Op.{Op}
 use Rattle.values.specs.Meaning.{isAccepted}
-use Rattle.plan.specs.Plans.{textBytes, Wrote, ItemPlan, ItemAt}
+use Rattle.store.specs.Texts.{textBytes}
+use Rattle.plan.specs.Plans.{Wrote, ItemPlan, ItemAt}
 use Rattle.word.specs.Words.{fillOf}
 use Rattle.plan.specs.declared.item.Plan.{Plan}
 use Rattle.plan.specs.declared.item.Plan.the-variants as Plan
