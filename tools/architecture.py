@@ -52,7 +52,7 @@ BOXES = [
     ("leaf", 186, 60, 80, 58, "word", ["for plan:", "12 and 13"]),
     ("leaf", 276, 60, 80, 58, "decode", ["for fetch:", "17 to 20"]),
     ("proved", 356, 326, 130, 68, "fetch", ["what reading takes", "for an item"]),
-    ("proved", 526, 146, 130, 68, "measure", ["string_packsize,", "list_bound"]),
+    ("proved", 526, 146, 130, 68, "measure, bound", ["string_packsize,", "list_bound"]),
     ("proved", 526, 236, 130, 78, "write", ["string_pack,", "pack_continued;", "write_pass, emit"]),
     ("proved", 526, 326, 130, 68, "read", ["string_unpack;", "read_pass"]),
     ("proved", 696, 146, 110, 248, "digribbon", [
@@ -67,7 +67,7 @@ BOXES = [
     ("leaf", 318, 452, 118, 104, "values, fields", ["the value list;", "for numbers, word,", "plan, write, read"]),
     ("leaf", 450, 452, 118, 104, "numbers", ["a value as integer", "or as number;", "for word"]),
     ("leaf", 582, 452, 118, 104, "single", ["f64 to f32, and", "back; for word,", "numbers, decode"]),
-    ("leaf", 714, 452, 118, 104, "coder, words", ["integers as bytes;", "for values, word,", "numbers, position,", "decode, emit"]),
+    ("leaf", 714, 452, 118, 104, "load, store", ["integers as bytes,", "with words;", "for values, fields,", "decode, emit"]),
     ("leaf", 846, 452, 114, 104, "position", ["starts, offsets,", "positions; for", "fetch, read"]),
 ]
 
