@@ -1,4 +1,4 @@
--- What P1 to P14 and the tables of Entries leave out: traps, the order of checks, both sides of every boundary. A table for each subject; its answers are document 01's, and it holds by computation.
+-- What P1 to P14 and the tables of Entries leave out: traps, the order of checks, both sides of every boundary. A table for each subject; its answers are document 01's, and it holds by computation, of long texts by laws.
 use Prim.Native.Nat.{ℕ, zero, suc, _-_, _^_, _≤_, _<_}
 use mathlib.Core.Path.{_≡_, refl}
 use mathlib.Core.Bool.{true, false}

@@ -10,7 +10,7 @@ use Rattle.definition.specs.declared.State.{State}
 use Rattle.definition.specs.declared.Continued.{Continued}
 use Rattle.definition.specs.declared.Unpacked.{Unpacked}
 
--- the number returned, and what the answer's array then holds: 0 and the answer's words, or the refusal's number and what the array held before. No refusal has the number 0 (`Numbered` of the definition's Claims).
+-- the number returned, and what the answer's array then holds: 0 and the answer's words, or the refusal's number and what the array held before. No refusal has the number 0 (`Numbered` of laws' Claims).
 abbrev pub told : {A : Type 0} → (A → List ℕ) → List ℕ → Checked A → ℕ × List ℕ
 told words before (refused k) = (k, before)
 told words before (accepted a) = (0, words a)

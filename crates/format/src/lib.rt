@@ -1,2 +1,2 @@
-// The items of a format: the option table, numerals, operands, and the cursor that reads one item after the other.
+// The items of a format: the cursor that reads one item after the other.
 pub mod cursor;

@@ -1,4 +1,4 @@
--- The examples hold by computation.
+-- The examples hold by computation. In the reading of 65,536 bytes their number comes up three times as checks are passed.
 use Prim.Native.Nat.{_-_, _^_}
 use native.Mathlib.Omega.{arith}
 use mathlib.Core.Path.{refl}

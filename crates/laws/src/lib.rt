@@ -1,5 +1,5 @@
-// What is claimed of the definitions, as contracts: the claims, and why they have their premises. The laws that prove them, which the code's proofs cite too,
-// are in proofs/.
+// What is claimed of the definitions, as contracts: the claims, and why they have their premises. The laws that prove them,
+// which the code's proofs cite too, are in proofs/.
 ghost use Rattle.laws.specs.Claims.{Demand, Continuing, Returned, Rooms, Numbered, Bounded, Decimals};
 ghost use Rattle.laws.specs.Premises.{Needed, Divided};
 
