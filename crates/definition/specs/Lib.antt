@@ -15,6 +15,8 @@ pub mod Bound
 pub mod Program
 pub mod Calls
 pub mod Kept
+pub mod Trays
 pub mod Profiles
 pub mod Entries
 pub mod Examples
+pub mod TrayExamples

@@ -15,6 +15,8 @@ refusals =
     ∷ 16 ∷ 17 ∷ 18 ∷ 19 ∷ 20
     -- "Host program"
     ∷ 21 ∷ 22
+    -- document 02: "Numbers added here and below join 01's list."
+    ∷ 23
     ∷ []
 
 -- k is one of them
