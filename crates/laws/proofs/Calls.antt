@@ -18,6 +18,7 @@ use Rattle.definition.specs.Lists.{front, values, fieldsAfter}
 use Rattle.definition.specs.States.{start, set}
 use Rattle.definition.specs.Writing.{zeroed, Output, nothing, _⊕_, Place, place, writeOp, writing, write}
 use Rattle.definition.specs.Calls.{Call, call, into, atMost63, pack, recordOf, continuedOf, packContinued, stringPack, unpack, unpackedOf, listRead, stringUnpack}
+use Rattle.definition.specs.Trays.{recordsOf, packTray}
 use Rattle.laws.specs.Claims.{All, LongEnough, gives, Total, totalOf, Room, Rooms, Returned}
 use Rattle.definition.specs.declared.State.{State}
 use Rattle.definition.specs.declared.Setting.{Setting}
@@ -28,7 +29,7 @@ use Rattle.laws.proofs.Answers.{never, same, same-number, bound, passed
 use Rattle.laws.proofs.Lists.{values-after}
 use Rattle.laws.proofs.Ops.{validOp, validSetting, Valid, options-sizes, ops-valid}
 use Rattle.laws.proofs.Steps.{Step, blank, sets, pads-out, puts, step-of}
-use Rattle.laws.proofs.Refusals.{ByCall, low-ops, low-writing, low-pack, low-unpack, refuses-not}
+use Rattle.laws.proofs.Refusals.{ByCall, low-ops, low-writing, low-pack, low-unpack, low-tray, refuses-not}
 
 -- ---- a result in a buffer
 
@@ -44,12 +45,17 @@ into-long b a s h = go (leb (length s) (length b)) h
     go true h = refl
     go false h = absurd (h refl)
 
+-- so is a call that others follow
+pub long-first : {A B : Type 0} (c : Checked A) (f : A → Checked B) → LongEnough (c >>= f) → LongEnough c
+long-first (refused k) f h e = h (ap refused (same-number e))
+long-first (accepted a) f h e = never (sym e)
+
 -- what a buffer makes of an accepted answer: the result in it, or 22
-data Put {A : Type 0} (b : List ℕ) (a : A) (s : List ℕ) : Call A → Type 0 where
+pub data Put {A : Type 0} (b : List ℕ) (a : A) (s : List ℕ) : Call A → Type 0 where
   put : length s ≤ length b → Put b a s (gives a s b)
   no-room : length b < length s → Put b a s (call (refused 22) b)
 
-put-into : {A : Type 0} (b : List ℕ) (a : A) (s : List ℕ) → Put b a s (into b (accepted (a, s)))
+pub put-into : {A : Type 0} (b : List ℕ) (a : A) (s : List ℕ) → Put b a s (into b (accepted (a, s)))
 put-into b a s = go (leb (length s) (length b)) refl
   where
     go : (t : Bool) → leb (length s) (length b) ≡ t → Put b a s (cond t (gives a s b) (call (refused 22) b))
@@ -109,7 +115,7 @@ pub pack-run : (s : State) (f l : List ℕ) (vs : List Value) → Sound s → va
 unfolding pack
 pack-run s f l vs h e = rw (h, e)
 
-set-sound : (x : Setting) (s : State) → T (validSetting x) → Sound s → Sound (set x s)
+pub set-sound : (x : Setting) (s : State) → T (validSetting x) → Sound s → Sound (set x s)
 set-sound (Setting.Order o) s ok h = h
 set-sound (Setting.Limit n) s ok h = both-true (isPower n) (atMost63 (s .length)) (is-true (isPower n) ok) (both-parts (isPower (s .limit)) (atMost63 (s .length)) h .1)
 
@@ -186,7 +192,7 @@ total-long s f l b h = go (pack s f l) h
 
 -- ---- room
 
-refused-bind : {A B : Type 0} (c : Checked A) (g : A → B) (k : ℕ) → (c >>= λ a. accepted (g a)) ≡ refused k → c ≡ refused k
+pub refused-bind : {A B : Type 0} (c : Checked A) (g : A → B) (k : ℕ) → (c >>= λ a. accepted (g a)) ≡ refused k → c ≡ refused k
 refused-bind (refused j) g k e = ap refused (same-number e)
 refused-bind (accepted a) g k e = absurd (never (sym e))
 
@@ -205,8 +211,12 @@ unpack-room : (f d : List ℕ) (p : ℤ) → Room (stringUnpack f d p)
 unfolding stringUnpack
 unpack-room f d p = room-of (unpack f d p) (λ r. (unpackedOf r, listRead (r .0))) (low-unpack f d p)
 
+tray-room : (f r : List ℕ) → Room (λ b. packTray f r b .call)
+unfolding packTray
+tray-room f r = room-of (recordsOf f r .answer) (λ bs. (length bs, bs)) (low-tray f r)
+
 pub rooms : Rooms
-rooms = record { packs = pack-room; continues = continued-room; reads = unpack-room }
+rooms = record { packs = pack-room; continues = continued-room; reads = unpack-room; trays = tray-room }
 
 -- ---- what continued writing returned is never refused by 21
 pub returned : Returned

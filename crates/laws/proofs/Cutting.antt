@@ -5,7 +5,7 @@ use mathlib.Core.Path.{_≡_, refl, sym, ap, _∙_}
 use mathlib.Core.Bool.{Bool, true, false, _&&_, cond}
 use mathlib.Core.List.{List, [], _∷_, map, map-append, append-assoc, append-nil}
 use lib.Dec.{leb}
-use lib.ListN.{length, take, length-append}
+use lib.ListN.{length, length-append}
 use Rattle.definition.specs.Answers.{Checked, refused, accepted, _>>=_, after}
 use Rattle.definition.specs.Options.{options}
 use Rattle.definition.specs.Ops.{ops, isPower}
@@ -13,13 +13,11 @@ use Rattle.definition.specs.Values.{Value}
 use Rattle.definition.specs.Lists.{values, fieldsAfter}
 use Rattle.definition.specs.States.{start}
 use Rattle.definition.specs.Writing.{zeroed, Output, nothing, _⊕_, Place, place, writeOp, write}
-use Rattle.definition.specs.declared.Continued.{Continued}
-use Rattle.definition.specs.Calls.{Call, call, into, atMost63, pack, recordOf, continuedOf, packContinued, stringPack}
+use Rattle.definition.specs.Calls.{call, into, atMost63, pack, recordOf, continuedOf, packContinued, stringPack}
 use Rattle.laws.specs.Claims.{LongEnough, gives, Divides, Total, totalOf, joinedTo, inTurn}
 use Rattle.definition.specs.declared.State.{State}
-use Rattle.laws.proofs.Answers.{never}
 use Rattle.laws.proofs.Parts.{runs, cut-anywhere}
-use Rattle.laws.proofs.Calls.{Sound, pack-run, Packed, next-sound, next-values, totalOfRun, total-long}
+use Rattle.laws.proofs.Calls.{Sound, pack-run, Packed, next-sound, next-values, totalOfRun, long-first, total-long}
 
 -- ---- outputs, joined
 pub nothing-left : (o : Output) → nothing ⊕ o ≡ o
@@ -89,18 +87,11 @@ parts ps = map (λ p. p .0) ps
 abbrev on : State → List ℕ → List (List ℕ × List ℕ) → Total → Checked Total
 on s l ps t = inTurn (t .next) (fieldsAfter (t .used) l) ps >>= λ u. accepted (joinedTo t u)
 
-long-first : (c : Checked Total) (f : Total → Checked Total) → LongEnough (c >>= f) → LongEnough c
-long-first (refused k) f h e = h e
-long-first (accepted t) f h e = never (sym e)
-
-answer-long : (c : Call Continued) → LongEnough (totalOf c) → LongEnough (c .answer)
-answer-long c h e = h (ap (λ (a : Checked Continued). a >>= λ x. accepted (record { next = x .next; bytes = take (x .written) (c .buffer); used = x .used; items = x .items })) e)
-
 turns-long : (ps : List (List ℕ × List ℕ)) (s : State) (l : List ℕ) → LongEnough (inTurn s l ps) → inTurn s l ps ≡ totals s l (parts ps)
 unfolding inTurn
 turns-long [] s l h = refl
 turns-long (p ∷ ps) s l h =
-    let first : totalOf (packContinued s (p .0) l (p .1)) ≡ total s (p .0) l = total-long s (p .0) l (p .1) (answer-long (packContinued s (p .0) l (p .1)) (long-first (totalOf (packContinued s (p .0) l (p .1))) (on s l ps) h)) in
+    let first : totalOf (packContinued s (p .0) l (p .1)) ≡ total s (p .0) l = total-long s (p .0) l (p .1) (long-first (packContinued s (p .0) l (p .1) .answer) _ (long-first (totalOf (packContinued s (p .0) l (p .1))) (on s l ps) h)) in
     rw first (go (total s (p .0) l) (rw first at h) (turns-long ps))
   where
     go : (c : Checked Total) → LongEnough (c >>= on s l ps) → ((s : State) (l : List ℕ) → LongEnough (inTurn s l ps) → inTurn s l ps ≡ totals s l (parts ps)) → (c >>= on s l ps) ≡ (c >>= λ t. totals (t .next) (fieldsAfter (t .used) l) (parts ps) >>= λ u. accepted (joinedTo t u))

@@ -65,7 +65,7 @@ module _ (f l : List ℕ) (r : Place Value × Output) (e : pack start f l ≡ ac
   length-is = ap length bytes-are ∙ length-record (r .1)
 
   -- an accepted answer of writing, put into a buffer that is long enough
-  fills : (m : List ℕ) (q : Place Value × Output) (b : List ℕ) → pack start f m ≡ accepted q → q .1 .cells ≡ r .1 .cells → LongEnough (stringPack f m b .answer)
+  pub fills : (m : List ℕ) (q : Place Value × Output) (b : List ℕ) → pack start f m ≡ accepted q → q .1 .cells ≡ r .1 .cells → LongEnough (stringPack f m b .answer)
       → stringPack f m b ≡ gives (length (packedBytes f l)) (packedBytes f l) b
   unfolding stringPack
   fills m q b i c long =

@@ -22,3 +22,6 @@ pub mod Continuing
 pub mod Premises
 pub mod Program
 pub mod Numbered
+pub mod Runs
+pub mod Trays
+pub mod LongTrays

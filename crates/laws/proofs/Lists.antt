@@ -6,6 +6,7 @@ use mathlib.Core.List.{List, [], _∷_, _++_, reverse, reverse-reverse, reverse-
 use native.Mathlib.Nat.{mod-eq-of-lt, pow-suc}
 use native.Mathlib.Omega.{arith}
 use lib.Dec.{leb, eqb, lit<, lit≤}
+use lib.Arith.{digits-mod, digits-div}
 use lib.IntN.{ℤ}
 use lib.ListN.{length, take, drop, length-reverse, length-append, take-append-drop}
 use lib.Seq.{drop-at, drop-nil, length-take-le}
@@ -25,7 +26,7 @@ past-drop zero s = refl
 past-drop (suc k) [] = refl
 past-drop (suc k) (b ∷ s) = past-drop k s
 
-big-total : (n v : ℕ) → v < 256 ^ n → bigTotal (big n v) ≡ v
+pub big-total : (n v : ℕ) → v < 256 ^ n → bigTotal (big n v) ≡ v
 big-total n v h = ap total (reverse-reverse (little n v)) ∙ total-little n v ∙ mod-eq-of-lt h
 
 pub length-big : (n v : ℕ) → length (big n v) ≡ n
@@ -57,17 +58,17 @@ field-of v rest h =
     let n : ℕ = length (content v) in
     rw (front-of 21 (big 2 n) (content v ++ rest) 2 (length-big 2 n), big-total 2 n (short v h), drop-at (big 2 n) (content v ++ rest) 2 (length-big 2 n), front-of 21 (content v) rest n refl, value-of v h)
 
-rest-of : (v : Value) (rest : List ℕ) → drop (2 + length (content v)) (big 2 (length (content v)) ++ (content v ++ rest)) ≡ rest
-rest-of v rest =
-    let n : ℕ = length (content v) in
-    ap (drop (2 + n)) (sym (append-assoc (big 2 n) (content v) rest)) ∙ drop-at (big 2 n ++ content v) rest (2 + n) (length-append (big 2 n) (content v) ∙ ap (λ (x : ℕ). x + n) (length-big 2 n))
+-- what stands behind a length t and as many bytes c
+pub rest-of : (t c rest : List ℕ) → length t ≡ 2 → drop (2 + length c) (t ++ (c ++ rest)) ≡ rest
+rest-of t c rest two = ap (drop (2 + length c)) (sym (append-assoc t c rest)) ∙ drop-at (t ++ c) rest (2 + length c) (length-append t c ∙ ap (λ (x : ℕ). x + length c) two)
 
 -- the values of a list that was made of values
 pub values-of : (vs : List Value) → All Held vs → values (listOf vs) ≡ accepted vs
 unfolding valuesPast listOf
 values-of [] h = refl
 values-of (v ∷ vs) h =
-    rw (field-of v (listOf vs) (h .0), past-drop (2 + length (content v)) (big 2 (length (content v)) ++ (content v ++ listOf vs)), rest-of v (listOf vs), values-of vs (h .1))
+    let n : ℕ = length (content v) in
+    rw (field-of v (listOf vs) (h .0), past-drop (2 + n) (big 2 n ++ (content v ++ listOf vs)), rest-of (big 2 n) (content v) (listOf vs) (length-big 2 n), values-of vs (h .1))
 
 -- ---- the values of any list of bytes are fine
 total-lt : (s : List ℕ) → All IsByte s → total s < 256 ^ length s
@@ -78,6 +79,15 @@ total-lt (b ∷ s) h = rw (pow-suc 256 (length s)) (omega (arith, total-lt s (h 
 all-reverse : (s : List ℕ) → All IsByte s → All IsByte (reverse s)
 all-reverse [] h = tt
 all-reverse (b ∷ s) h = rw (reverse-cons b s) (all-append IsByte (reverse s) (b ∷ []) (all-reverse s (h .1)) (h .0, tt))
+
+-- bytes are those of the number that they write
+little-total : (s : List ℕ) → All IsByte s → little (length s) (total s) ≡ s
+unfolding little total
+little-total [] h = refl
+little-total (b ∷ s) h = rw (digits-mod (total s) (h .0), digits-div (total s) (h .0), little-total s (h .1))
+
+pub big-of : (s : List ℕ) (n : ℕ) → All IsByte s → length s ≡ n → big n (bigTotal s) ≡ s
+big-of s n h e = rw (← e, ← length-reverse s, little-total (reverse s) (all-reverse s h), reverse-reverse s)
 
 big-lt : (s : List ℕ) (n : ℕ) → All IsByte s → length s ≡ n → bigTotal s < 256 ^ n
 big-lt s n h e = subst (λ (k : ℕ). bigTotal s < 256 ^ k) (length-reverse s ∙ e) (total-lt (reverse s) (all-reverse s h))

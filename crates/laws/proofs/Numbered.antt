@@ -2,7 +2,7 @@
 use Prim.Native.Nat.{ℕ}
 use mathlib.Core.Path.{sym, subst}
 use mathlib.Core.Bool.{Bool, true, false, cond}
-use mathlib.Core.List.{List, _∷_}
+use mathlib.Core.List.{List}
 use lib.Dec.{T, leb}
 use lib.IntN.{ℤ}
 use lib.ListN.{length}
@@ -13,18 +13,19 @@ use Rattle.definition.specs.Measuring.{measure}
 use Rattle.definition.specs.Bound.{bound}
 use Rattle.definition.specs.States.{start}
 use Rattle.definition.specs.Calls.{Call, atMost63, into, stringPacksize, listBound, pack, packContinued, stringPack, unpack, stringUnpack}
+use Rattle.definition.specs.Trays.{recordsOf, packTray}
 use Rattle.laws.specs.Claims.{Listed, Numbered}
 use Rattle.definition.specs.declared.State.{State}
 use Rattle.laws.proofs.Answers.{never, same-number}
-use Rattle.laws.proofs.Refusals.{Refuses, items-give, ByCall, low, fine, low-bind, low-check, low-up, among-all, low-measure, low-bound, low-pack, low-unpack}
+use Rattle.laws.proofs.Refusals.{Refuses, items-give, calls-give, ByCall, low, fine, low-bind, low-check, low-up, among-all, low-measure, low-bound, low-pack, low-unpack, low-tray}
 
 listed : {A : Type 0} (c : Checked A) → Refuses (among refusals) c → Listed c
 listed (refused j) (low h) k e = subst (λ (x : ℕ). T (among refusals x)) (same-number e) h
 listed (accepted a) h k e = absurd (never (sym e))
 
 -- of a call, but for its result buffer, and of items
-of-call : (k : ℕ) → T (among (16 ∷ 21 ∷ items-give) k) → T (among refusals k)
-of-call = among-all refusals (16 ∷ 21 ∷ items-give) tt
+of-call : (k : ℕ) → T (among calls-give k) → T (among refusals k)
+of-call = among-all refusals calls-give tt
 
 of-item : (k : ℕ) → T (among items-give k) → T (among refusals k)
 of-item = among-all refusals items-give tt
@@ -57,5 +58,9 @@ listed-unpack : (f d : List ℕ) (p : ℤ) (b : List ℕ) → Listed (stringUnpa
 unfolding stringUnpack
 listed-unpack f d p b = listed-into b _ (low-bind (unpack f d p) _ (low-unpack f d p) (λ r. fine))
 
+listed-tray : (f r b : List ℕ) → Listed (packTray f r b .call .answer)
+unfolding packTray
+listed-tray f r b = listed-into b _ (low-bind (recordsOf f r .answer) _ (low-tray f r) (λ bs. fine))
+
 pub numbered : Numbered
-numbered = record { sizes = listed-size; bounds = listed-bound; packs = listed-pack; continues = listed-continued; reads = listed-unpack }
+numbered = record { sizes = listed-size; bounds = listed-bound; packs = listed-pack; continues = listed-continued; reads = listed-unpack; trays = listed-tray }

@@ -1,9 +1,9 @@
 -- The examples hold by computation. In the reading of 65,536 bytes their number comes up three times as checks are passed.
-use Prim.Native.Nat.{_-_, _^_}
+use Prim.Native.Nat.{ℕ, _-_, _^_}
 use native.Mathlib.Omega.{arith}
-use mathlib.Core.Path.{refl}
-use mathlib.Core.List.{[], _∷_}
-use lib.ListN.{length}
+use mathlib.Core.Path.{_≡_, refl, sym, _∙_}
+use mathlib.Core.List.{[], _∷_, _++_}
+use lib.ListN.{length, drop}
 use lib.Seq.{length-take-le}
 use lib.Ieee.{ofBits, toBits, ofInt, ofFields, odd, round, nanBits, size, span, climb, units}
 use lib.Count.{trailingZeros}
@@ -20,8 +20,13 @@ use Rattle.definition.specs.Writing.{writeField, writeOp}
 use Rattle.definition.specs.Reading.{readField, readOp, read}
 use Rattle.definition.specs.Program.{decimalIn}
 use Rattle.definition.specs.Calls.{pack, packContinued, stringPack, unpack, stringUnpack}
+use Rattle.definition.specs.Answers.{accepted}
+use Rattle.definition.specs.Trays.{runOf, firstList, listsPast, lists, records, packTray}
 use Rattle.laws.specs.Claims.{inTurn}
 use Rattle.laws.specs.Premises.{Needed, Divided}
+use Rattle.laws.specs.Trays.{oneByOne, TraysNeeded}
+use Rattle.laws.proofs.Answers.{bound}
+use Rattle.laws.proofs.Runs.{lists-first, first-list}
 
 pub needed : Needed
 unfolding little total signed laid listOf fieldOf valuesPast fieldsAfter entryList options digits taken itemsPast value numeralOf opOf longer alignment padding
@@ -53,4 +58,17 @@ divided = record {
   parts = record { groups = items options (bytes "<!4 b") ∷ [] ∷ items options (bytes " i") ∷ []; whole = refl; parts = refl };
   whole = refl;
   in-turn = refl;
+}
+
+pub trays-needed : TraysNeeded
+unfolding little total fieldOf valuesPast options taken itemsPast opOf longer alignment padding writeOp pack stringPack runOf firstList listsPast records packTray oneByOne
+trays-needed = record {
+  fits = λ l h e.
+      let first : firstList (runOf (l ∷ [])) ≡ accepted [] = rw h (first-list (0 ∷ 0 ∷ []) [] (l ++ []) refl refl) in
+      let b = bound (lists (drop 2 (runOf (l ∷ [])))) (λ ls. accepted ([] ∷ ls)) (sym (lists-first (runOf (l ∷ [])) [] (omega arith) first) ∙ e) in
+      let z : length l ≡ 0 = cc (b .rest) in
+      omega arith;
+  below = (refl, λ e. let z : _≡_ {A = ℕ} 0 1 = cc in omega arith);
+  runs = (refl, refl, refl);
+  long = (refl, refl, refl);
 }

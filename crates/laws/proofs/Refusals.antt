@@ -1,4 +1,4 @@
--- By which numbers of the list a call refuses: the items of measuring, writing and reading, a value list, and a call but for its result buffer.
+-- By which numbers of the list a call refuses: the items of measuring, writing and reading, a value list, a run of them, and a call but for its result buffer.
 use Prim.Native.Nat.{ℕ, zero, suc, _+_, _-_, _^_, min}
 use mathlib.Core.Path.{_≡_, refl, sym, subst}
 use mathlib.Core.Bool.{Bool, true, false, _&&_, _||_, not, cond}
@@ -16,12 +16,13 @@ use Rattle.definition.specs.Values.{Value, integer, float, text, other, asInteg
 use Rattle.definition.specs.Bytes.{sign, signed, low as lowOf, coded}
 use Rattle.definition.specs.States.{start, further, longer, natural, alignment, padding}
 use Rattle.definition.specs.Fields.{inSigned, inUnsigned, floatBy, integerOr, word, filled, hasZero, encode, all, first, short, upToZero, number, signedValue, unsigned, unsignedValue, valueBy, decode}
-use Rattle.definition.specs.Writing.{nothing, _⊕_, Place, taking, early, writeField, writeOp, writing, write}
+use Rattle.definition.specs.Writing.{Output, nothing, _⊕_, Place, taking, early, writeField, writeOp, writing, write}
 use Rattle.definition.specs.Reading.{readPad, readField, readOp, reading, offset, offsetOf, readFrom, read}
 use Rattle.definition.specs.Lists.{bigTotal, front, valueOf, fieldOf, valuesPast, values}
 use Rattle.definition.specs.Measuring.{sizeOf, measurePad, measureOp, measure}
 use Rattle.definition.specs.Bound.{most, boundOp, bound}
 use Rattle.definition.specs.Calls.{atMost63, pack, unpack}
+use Rattle.definition.specs.Trays.{firstList, listsPast, lists, Placed, before, records, recordsFrom, recordsOf}
 use Rattle.laws.specs.Claims.{All}
 use Rattle.laws.proofs.Answers.{never, same-number}
 use Rattle.definition.specs.Options as Class
@@ -43,17 +44,24 @@ pub data Refuses (test : ℕ → Bool) {A : Type 0} : Checked A → Type 0 where
 abbrev pub items-give : List ℕ
 items-give = 1 ∷ 2 ∷ 3 ∷ 4 ∷ 5 ∷ 6 ∷ 7 ∷ 8 ∷ 9 ∷ 10 ∷ 11 ∷ 12 ∷ 13 ∷ 14 ∷ 15 ∷ 17 ∷ 18 ∷ 19 ∷ 20 ∷ []
 
+-- the numbers of a call's checks, but for its result buffer
+abbrev pub calls-give : List ℕ
+calls-give = 16 ∷ 21 ∷ 23 ∷ items-give
+
 -- a refusal is one of an item's
 abbrev pub ByItem : {A : Type 0} → Checked A → Type 0
 ByItem c = Refuses (among items-give) c
 
 -- a refusal is one of a call's, but for its result buffer
 abbrev pub ByCall : {A : Type 0} → Checked A → Type 0
-ByCall c = Refuses (among (16 ∷ 21 ∷ items-give)) c
+ByCall c = Refuses (among calls-give) c
 
--- a refusal is 21
+-- a refusal is 21, or 23
 abbrev pub By21 : {A : Type 0} → Checked A → Type 0
 By21 c = Refuses (λ k. eqb k 21) c
+
+abbrev pub By23 : {A : Type 0} → Checked A → Type 0
+By23 c = Refuses (λ k. eqb k 23) c
 
 module _ {test : ℕ → Bool} where
   pub low-bind : {A B : Type 0} (c : Checked A) (f : A → Checked B) → Refuses test c → ((a : A) → Refuses test (f a)) → Refuses test (c >>= f)
@@ -364,18 +372,33 @@ past-21 (suc k) (b ∷ s) = past-21 k s
 pub values-21 : (l : List ℕ) → By21 (values l)
 values-21 l = past-21 0 l
 
+-- ---- a run's lists
+first-23 : (r : List ℕ) → By23 (firstList r)
+unfolding firstList
+first-23 r = low-bind (front 23 2 r) _ (low-check (leb 2 (length r)) 23 _ tt fine) (λ n. low-check (leb (bigTotal n) (length (drop 2 r))) 23 _ tt fine)
+
+past-23 : (k : ℕ) (r : List ℕ) → By23 (listsPast k r)
+unfolding listsPast
+past-23 zero [] = fine
+past-23 zero (b ∷ r) = low-bind (firstList (b ∷ r)) _ (first-23 (b ∷ r)) (λ l. low-bind (listsPast (1 + length l) r) _ (past-23 (1 + length l) r) (λ ls. fine))
+past-23 (suc k) [] = fine
+past-23 (suc k) (b ∷ r) = past-23 k r
+
+pub lists-23 : (r : List ℕ) → By23 (lists r)
+lists-23 r = past-23 0 r
+
 -- ---- the calls
-is-21 : (k : ℕ) → T (eqb k 21) → T (among (16 ∷ 21 ∷ items-give) k)
-is-21 k h = subst (λ (x : ℕ). T (among (16 ∷ 21 ∷ items-give) x)) (sym (eqb→eq k 21 h)) tt
+is-among : (n k : ℕ) → T (among calls-give n) → T (eqb k n) → T (among calls-give k)
+is-among n k h e = subst (λ (x : ℕ). T (among calls-give x)) (sym (eqb→eq k n e)) h
 
 of-item : {A : Type 0} (c : Checked A) → ByItem c → ByCall c
-of-item c h = low-up c (among-all (16 ∷ 21 ∷ items-give) items-give tt) h
+of-item c h = low-up c (among-all calls-give items-give tt) h
 
 pub low-pack : (s : State) (f l : List ℕ) → ByCall (pack s f l)
 unfolding pack
 low-pack s f l =
     low-check (isPower (s .limit) && atMost63 (s .length)) 21 _ tt
-    (low-bind (values l) _ (low-up (values l) is-21 (values-21 l)) (λ vs. of-item (write options s vs f) (low-writing _ (ops options f) (low-ops options f))))
+    (low-bind (values l) _ (low-up (values l) (λ k. is-among 21 k tt) (values-21 l)) (λ vs. of-item (write options s vs f) (low-writing _ (ops options f) (low-ops options f))))
 
 low-offset : (p : ℤ) (len : ℕ) → ByCall (offsetOf p len)
 low-offset (pos p) len = low-check (leb 1 p && leb p (len + 1)) 16 (accepted (offset (p - 1))) tt fine
@@ -386,6 +409,22 @@ unfolding unpack read
 low-unpack f d p =
     low-check (atMost63 (length d)) 21 _ tt
     (low-bind (offsetOf p (length d)) _ (low-offset p (length d)) (λ o. low-bind (readFrom options f d o) _ (of-item (readFrom options f d o) (low-reading _ (ops options f) (low-ops options f))) (λ r. fine)))
+
+before-low : (p : ℕ) (c : Checked (Place Value × Output)) (t : Placed (List ℕ)) → ByCall c → ByCall (t .answer) → ByCall (before p c t .answer)
+before-low p (refused k) t (low h) g = low h
+before-low p (accepted r) t h g = low-bind (t .answer) _ g (λ bs. fine)
+
+low-records : (p : ℕ) (f : List ℕ) (ls : List (List ℕ)) → ByCall (records start p f ls .answer)
+unfolding records
+low-records p f [] = fine
+low-records p f (l ∷ ls) = before-low p (pack start f l) (records start (p + 1) f ls) (low-pack start f l) (low-records (p + 1) f ls)
+
+pub low-tray : (f r : List ℕ) → ByCall (recordsOf f r .answer)
+low-tray f r = go (lists r) (low-up (lists r) (λ k. is-among 23 k tt) (lists-23 r))
+  where
+    go : (c : Checked (List (List ℕ))) → ByCall c → ByCall (recordsFrom start 1 f c .answer)
+    go (refused k) (low h) = low h
+    go (accepted ls) h = low-records 1 f ls
 
 -- an answer whose refusals pass a test is not refused by a number that doesn't
 pub refuses-not : {A : Type 0} (test : ℕ → Bool) (n : ℕ) (c : Checked A) → (T (test n) → ⊥) → Refuses test c → c ≡ refused n → ⊥

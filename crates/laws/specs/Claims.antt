@@ -22,6 +22,7 @@ use Rattle.definition.specs.Writing.{Cell, pad, byte}
 use Rattle.definition.specs.Reading.{offset, positionOf}
 use Rattle.definition.specs.Program.{decimal}
 use Rattle.definition.specs.Calls.{Call, call, stringPacksize, listBound, recordOf, packContinued, stringPack, stringUnpack}
+use Rattle.definition.specs.Trays.{packTray}
 use Rattle.definition.specs.Kept.{writtenFrom, written, keptFrom, keptList}
 use Rattle.definition.specs.declared.State.{State}
 use Rattle.definition.specs.declared.Field.{Field}
@@ -211,6 +212,7 @@ pub record Rooms : Type 0 where
   pub packs : (f l : List ℕ) → Room (stringPack f l)
   pub continues : (s : State) (f l : List ℕ) → Room (packContinued s f l)
   pub reads : (f d : List ℕ) (p : ℤ) → Room (stringUnpack f d p)
+  pub trays : (f r : List ℕ) → Room (λ b. packTray f r b .call)
 
 -- "A refusal returns its number only": a number of the list, in which 0 is not, so that a caller may take 0 for "accepted"
 abbrev pub Listed : {A : Type 0} → Checked A → Type 0
@@ -223,6 +225,7 @@ pub record Numbered : Type 0 where
   pub packs : (f l b : List ℕ) → Listed (stringPack f l b .answer)
   pub continues : (s : State) (f l b : List ℕ) → Listed (packContinued s f l b .answer)
   pub reads : (f d : List ℕ) (p : ℤ) (b : List ℕ) → Listed (stringUnpack f d p b .answer)
+  pub trays : (f r b : List ℕ) → Listed (packTray f r b .call .answer)
 
 -- "an accepted reading's list is at most this long": the bound is accepted, or 9
 abbrev pub Bounded : Type 0

@@ -2,13 +2,14 @@
 // which the code's proofs cite too, are in proofs/.
 ghost use Rattle.laws.specs.Claims.{Demand, Continuing, Returned, Rooms, Numbered, Bounded, Decimals};
 ghost use Rattle.laws.specs.Premises.{Needed, Divided};
+ghost use Rattle.laws.specs.Trays.{Trays, TraysNeeded, TraysLong};
 
 // The claims, about the definitions that the contracts of the calls name.
 pub fn claims()
-    ensures { λ _. ⌜ Demand × Continuing × Returned × Rooms × Numbered × Bounded × Decimals ⌝ }
+    ensures { λ _. ⌜ Demand × Continuing × Returned × Rooms × Numbered × Bounded × Decimals × Trays ⌝ }
 {}
 
-// An example for each of their premises, and one of a format that is divided into parts.
+// An example for each of their premises, one of a format that is divided into parts, and trays of the longest records.
 pub fn examples()
-    ensures { λ _. ⌜ Needed × Divided ⌝ }
+    ensures { λ _. ⌜ Needed × Divided × TraysNeeded × TraysLong ⌝ }
 {}
