@@ -4,14 +4,14 @@ use definition::Offset;
 use definition::Setting;
 use definition::State;
 ghost use mathlib.Core.Path.{_≡_};
-ghost use Prim.Native.Nat.{_+_, _-_, _^_, _≤_, min};
+ghost use Prim.Native.Nat.{ℕ, _+_, _-_, _^_, _≤_, min};
 ghost use lib.Dec.{leb};
 ghost use mathlib.Core.Bool.{_&&_};
 ghost use Rattle.definition.specs.States as states;
 ghost use Rattle.definition.specs.Reading.{offsetIn, atOffset};
 ghost use Rattle.definition.specs.Ops.{isPower};
 ghost use Rattle.definition.specs.Calls.{atMost63};
-ghost use Rattle.align.specs.Amounts.{amountOf, stateOf};
+ghost use Rattle.align.specs.Amounts.{amountOf, stateOf, SameTo63};
 
 // A number of bytes, or the number of a refusal.
 pub enum Amount {
@@ -27,6 +27,18 @@ pub enum Next {
 
 // The greatest length.
 pub const MAX_LENGTH: u64 = 0x7fff_ffff_ffff_ffff;
+
+// A sum of lengths that is counted up to the greatest one. No buffer is longer.
+pub fn sum(total: u64, n: u64) -> u64
+    requires { ⌜ n ≤ 2 ^ 63 - 1 ⌝ }
+    ensures { λ r. ⌜ ((m : ℕ) → SameTo63 total m → SameTo63 r (m + n)) ⌝ }
+{
+    if total < 0x8000_0000_0000_0000 {
+        total + n
+    } else {
+        total
+    }
+}
 
 // The state with a byte order (true: big), a limit and a length.
 pub fn state(big: bool, limit: u64, length: u64) -> State

@@ -27,7 +27,8 @@ use Rattle.fetch.specs.Fetching.{Stands, placeIn, FetchedStands, Fetches}
 use Rattle.decode.specs.declared.Reading.{Reading}
 use Rattle.fetch.specs.declared.Fetched.{Fetched}
 use Rattle.fetch.specs.declared.Fetched.the-variants as Fetched
-use Rattle.read_pass.specs.Runs.{readAt, sizeOf, Short, SameTo63, Reads, Fits, listInto, listAfter}
+use Rattle.align.specs.Amounts.{SameTo63}
+use Rattle.read_pass.specs.Runs.{readAt, sizeOf, Short, Reads, Fits, listInto, listAfter}
 use Rattle.read_pass.proofs.Sizes.{no-values, list-parts, size-is, short}
 use Rattle.read_pass.proofs.Runs.{SoFar, from-start, run-end, run-refusal, item-refused, item-set, item-read}
 

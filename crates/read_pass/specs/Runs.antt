@@ -1,5 +1,5 @@
 -- What the two passes over a format say, in the definition's terms.
-use Prim.Native.Nat.{ℕ, _+_, _^_, _≤_, min}
+use Prim.Native.Nat.{ℕ, _+_, _≤_}
 use mathlib.Core.Path.{_≡_}
 use mathlib.Core.List.{List, _++_}
 use lib.ListN.{length, drop}
@@ -13,6 +13,7 @@ use Rattle.definition.specs.Reading.{offsetIn}
 use Rattle.laws.proofs.Traces.{readingValues}
 use Rattle.definition.specs.declared.State.{State}
 use Rattle.definition.specs.declared.Offset.{Offset}
+use Rattle.align.specs.Amounts.{SameTo63}
 use Rattle.decode.specs.Readings.{Within}
 use Rattle.fetch.specs.Fetching.{placeIn}
 use Rattle.decode.specs.declared.Reading.{Reading}
@@ -37,10 +38,6 @@ abbrev pub Short : Reading → Type 0
 Short (Integer z) = Unit {0}
 Short (Float b) = Unit {0}
 Short (Text start n) = n ≤ 65535
-
--- n is m, or both are above 2^63-1
-abbrev pub SameTo63 : ℕ → ℕ → Type 0
-SameTo63 n m = min n (2 ^ 63) ≡ min m (2 ^ 63)
 
 -- ---- the first pass
 

@@ -2,6 +2,7 @@
 use align::at_offset;
 use align::offset_in;
 use align::parts;
+use align::sum;
 use decode::Reading;
 use definition::Offset;
 use definition::State;
@@ -15,7 +16,7 @@ use format::cursor::Next;
 ghost use mathlib.Core.Path.{_≡_};
 ghost use mathlib.Core.Bool.{true, cond};
 ghost use mathlib.Core.List.{[], _∷_};
-ghost use Prim.Native.Nat.{ℕ, _+_, _≤_};
+ghost use Prim.Native.Nat.{_+_, _≤_};
 ghost use lib.ListN.{length};
 ghost use lib.Seq.{paste};
 ghost use Rattle.definition.specs.Lists.{listOf};
@@ -23,7 +24,7 @@ ghost use Rattle.laws.proofs.Ops.{Sizes};
 ghost use Rattle.decode.specs.Readings.{valueOf, Inside};
 ghost use Rattle.fetch.specs.Fetching.{Stands};
 ghost use Rattle.options.specs.Packed.{tableAt};
-ghost use Rattle.read_pass.specs.Runs.{sizeOf, Short, SameTo63, Checks, Fits, listAfter};
+ghost use Rattle.read_pass.specs.Runs.{sizeOf, Short, Checks, Fits, listAfter};
 
 // The number of a refusal, or the length of the value list and the offset after the last byte read. A length above 2^63-1
 // says only that the list's is above it too.
@@ -41,18 +42,6 @@ fn size_of(r: Reading) -> u64
         Reading::Integer(_) => 11,
         Reading::Float(_) => 11,
         Reading::Text(_, n) => 3 + n,
-    }
-}
-
-// A sum that is counted up to 2^63-1. No buffer is longer.
-fn sum(total: u64, n: u64) -> u64
-    requires { ⌜ n ≤ 65538 ⌝ }
-    ensures { λ r. ⌜ ((m : ℕ) → SameTo63 total m → SameTo63 r (m + n)) ⌝ }
-{
-    if total < 0x8000_0000_0000_0000 {
-        total + n
-    } else {
-        total
     }
 }
 

@@ -105,7 +105,7 @@ pass-spec =
     loop-again
     (λ c. c .match2 .keys3)
     put-reading-requires size-of-requires
-    (λ c κs. c .size-of .ensures .1)
+    (λ c κs. omega (arith, c .size-of .ensures .1))
     (λ c κs. tt)
     (λ c. omega (arith, onward (c .before .before .before .before .before .before .before .before)))
     loop-again-2)
