@@ -1,0 +1,4 @@
+pub mod Led
+pub mod Records
+pub mod Walking
+pub mod Calls
