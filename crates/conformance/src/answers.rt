@@ -4,11 +4,14 @@ use measure::Measured;
 use measure::string_packsize;
 use read::Unpacking;
 use read::string_unpack;
+use tray::Tray;
+use tray::pack_tray;
 use words::to_signed;
 use write::Packed;
 use write::string_pack;
 
-// A refusal's number, or 0; a length, and the next position of reading, each 0 where there is none.
+// A refusal's number, or 0; a length, and the next position of reading or the place of a tray's record that was refused,
+// each 0 where there is none.
 pub struct Answer {
     pub refusal: u8,
     pub length: u64,
@@ -55,10 +58,18 @@ fn of_unpacked(u: Unpacking) -> Answer {
     }
 }
 
-// Writing, or reading from a start.
+fn of_tray(t: Tray) -> Answer {
+    match t {
+        Tray::Length(n) => answer_of(0, n, 0),
+        Tray::Refused(k, place) => answer_of(k, 0, place),
+    }
+}
+
+// Writing, a tray, or reading from a start. The list is a tray's run, or the data.
 pub fn called(call: u8, format: &[u8], list: &[u8], start: u64, out: &mut [u8]) -> Answer {
     match call {
         b'w' => of_packed(string_pack(format, list, out)),
+        b't' => of_tray(pack_tray(format, list, out)),
         _ => of_unpacked(string_unpack(format, list, to_signed(start), out)),
     }
 }

@@ -2,7 +2,9 @@
 //   m FORMAT = SIZE                          measuring
 //   w FORMAT / LIST = RECORD                 writing
 //   r FORMAT / DATA / START = LIST / NEXT    reading
-// A refusal has ! in place of = and what follows it. `compare/run record FILE` makes the lines.
+//   t FORMAT / RUN = TRAY                    a tray
+// A refusal has ! in place of = and what follows it, and behind that of a tray stands / PLACE. `compare/run record FILE`
+// makes the lines.
 use crate::answers::Answer;
 use crate::answers::called;
 use crate::answers::size;
@@ -29,7 +31,7 @@ fn has_number(s: &[u8], at: usize, mark: u8, x: u64) -> bool {
 }
 
 // Whether the answer at a place is ours: the same bytes at the front of the buffer, and no other byte changed; the same
-// next position, if there is one. Behind the mark of a refusal stands nothing.
+// next position, or place of a refused record, if there is one. Behind the mark of a refusal stand no bytes.
 fn is_answer(s: &[u8], at: usize, a: Answer, out: &[u8]) -> bool {
     let mut expected = [FILL; 1024];
     let e = bytes(s, behind(at), &mut expected);

@@ -6,6 +6,7 @@ use lib.Dec.{eqb}
 use Rattle.definition.specs.Answers.{Checked, refused, accepted}
 use Rattle.definition.specs.States.{state}
 use Rattle.definition.specs.Calls.{Call}
+use Rattle.definition.specs.Trays.{TrayCall}
 use Rattle.definition.specs.declared.State.{State}
 use Rattle.definition.specs.declared.Continued.{Continued}
 use Rattle.definition.specs.declared.Unpacked.{Unpacked}
@@ -29,6 +30,12 @@ continuedWords c = cond (c .next .big) 1 0 ∷ c .next .limit ∷ c .next .lengt
 
 abbrev pub unpackedWords : Unpacked → List ℕ
 unpackedWords u = u .length ∷ u .next .0 ∷ []
+
+-- ---- a tray's place
+
+-- what a call on a tray tells, and the word that then says the place of the record that is refused, or 0
+abbrev pub toldAt : List ℕ → TrayCall → ((ℕ × List ℕ) × List ℕ) × List ℕ
+toldAt before t = (toldWith word before (t .call), word (t .place))
 
 -- ---- arguments
 

@@ -1,10 +1,13 @@
-// The calls under C names. Each returns 0 and fills its answer, or returns a refusal's number and changes nothing.
+// The calls under C names. Each returns 0 and fills its answer, or returns a refusal's number and changes nothing; a tray's place
+// is told in both cases.
 use align::state;
 use bound::list_bound;
 use measure::Measured;
 use measure::string_packsize;
 use read::Unpacking;
 use read::string_unpack;
+use tray::Tray;
+use tray::pack_tray;
 use values::fields_after;
 use write::Packed;
 use write::pack_continued;
@@ -14,8 +17,9 @@ ghost use mathlib.Core.Path.{_≡_};
 ghost use Rattle.definition.specs.Answers.{accepted};
 ghost use Rattle.definition.specs.Lists.{offsetAfter};
 ghost use Rattle.definition.specs.Calls.{stringPacksize, listBound, stringPack, packContinued, stringUnpack};
+ghost use Rattle.definition.specs.Trays.{packTray};
 ghost use Rattle.measure.specs.Measured.{measuredOf};
-ghost use Rattle.digribbon.specs.Answers.{told, toldWith, word, continuedWords, unpackedWords, stateOf};
+ghost use Rattle.digribbon.specs.Answers.{told, toldWith, toldAt, word, continuedWords, unpackedWords, stateOf};
 
 // A size in the answer, or a refusal's number.
 fn tell_size(m: Measured, answer: &mut [u64; 1]) -> u64
@@ -108,6 +112,30 @@ pub extern "C" fn digribbon_unpack(
         Unpacking::Unpacked(u) => {
             let p = u.next;
             *answer = [u.length, p.0];
+            0
+        }
+    }
+}
+
+// A tray, with the place of the record that is refused.
+#[no_mangle]
+pub extern "C" fn digribbon_pack_tray(
+    format: &[u8],
+    run: &[u8],
+    tray: &mut [u8],
+    place: &mut [u64; 1],
+    answer: &mut [u64; 1],
+) -> u64
+    ensures { λ r. ⌜ (((r, now (answer .exit)), now (tray .exit)), now (place .exit)) ≡ toldAt (now (answer .entry)) (packTray (now (format .entry)) (now (run .entry)) (now (tray .entry))) ⌝ }
+{
+    match pack_tray(format, run, tray) {
+        Tray::Refused(k, p) => {
+            *place = [p];
+            k as u64
+        }
+        Tray::Length(n) => {
+            *place = [0];
+            *answer = [n];
             0
         }
     }
