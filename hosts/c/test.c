@@ -98,6 +98,29 @@ typedef struct {
     uint64_t order, limit, length;
 } State;
 
+/* A tray in a buffer of `room` bytes gives the records, or the number, the place and no change. */
+static void fills(const char *format, Slice run, size_t room, uint64_t number, uint64_t place, Slice tray)
+{
+    uint64_t answer[] = {MARK}, places[] = {MARK, MARK};
+    uint8_t *buffer = lent(room);
+    CHECK(digribbon_pack_tray(text(format).start, text(format).length, run.start, run.length, buffer, room, places,
+                              answer) == number);
+    CHECK(places[0] == place && places[1] == MARK);
+    if (number == 0)
+        CHECK(answer[0] == tray.length && holds(buffer, room, tray));
+    else
+        CHECK(unchanged(buffer, room, answer, 1));
+    free(buffer);
+}
+
+/* The tray is refused whatever the buffer's length. */
+static void refuses(const char *format, Slice run, uint64_t number, uint64_t place)
+{
+    static const size_t rooms[] = {0, 1, 2, 3, 64};
+    for (size_t i = 0; i < sizeof rooms / sizeof rooms[0]; i++)
+        fills(format, run, rooms[i], number, place, (Slice){run.start, 0});
+}
+
 /* Continued writing gives the record and the six words, or the number and no change. */
 static void continues(State from, const char *format, Slice list, size_t room, uint64_t number, Slice record,
                       const uint64_t words[6])
@@ -201,6 +224,23 @@ static void test_parts(void)
     free(record);
 }
 
+/* Three times the room that the header's sum has for a record suffices for a tray of three. */
+static void suffices(Slice format, Slice list, size_t room, uint64_t length)
+{
+    uint8_t run[3 * 32], *tray = lent(3 * room);
+    uint64_t place[1], answer[1];
+    for (size_t i = 0; i < 3; i++) {
+        uint8_t *at = run + i * (2 + list.length);
+        at[0] = 0;
+        at[1] = (uint8_t)list.length;
+        memcpy(at + 2, list.start, list.length);
+    }
+    CHECK(digribbon_pack_tray(format.start, format.length, run, 3 * (2 + list.length), tray, 3 * room, place,
+                              answer) == 0);
+    CHECK(place[0] == 0 && answer[0] == 3 * length);
+    free(tray);
+}
+
 /* The header's sums for buffers suffice for the longest items: aligned integers and lengths, fills, texts. */
 static void test_sums(void)
 {
@@ -219,6 +259,7 @@ static void test_sums(void)
         Slice data = {record, answer[0]};
         CHECK(digribbon_pack(format.start, format.length, list.start, list.length, record, data.length - 1, answer) ==
               DIGRIBBON_RESULT_TOO_LONG);
+        suffices(format, list, room, data.length);
         room = 11 * format.length + data.length;
         values = lent(room);
         CHECK(digribbon_unpack(format.start, format.length, data.start, data.length, 1, values, room, answer) == 0);
@@ -226,6 +267,114 @@ static void test_sums(void)
         free(values);
         free(record);
     }
+}
+
+/* Lists behind their lengths: of one integer, of three, of a text with a letter, of two empty texts. */
+#define ONE(low) 0, 11, INTEGER(low)
+#define THREE(a, b, c) 0, 33, INTEGER(a), INTEGER(b), INTEGER(c)
+#define LETTER 0, 4, 3, 0, 1, 'A'
+#define TWO_EMPTY 0, 6, 3, 0, 0, 3, 0, 0
+
+/* Each record is laid out as if alone: order, limit and length begin anew. */
+static void test_trays(void)
+{
+    Slice run = BYTES(THREE(1, 2, 3), THREE(4, 5, 6)), tray = BYTES(1, 0, 2, 0, 3, 4, 0, 5, 0, 6);
+    for (size_t room = 10; room <= 12; room++)
+        fills("<!2 b h b", run, room, 0, 0, tray);
+    for (size_t room = 0; room < 10; room++)
+        fills("<!2 b h b", run, room, DIGRIBBON_RESULT_TOO_LONG, 0, nothing);
+    fills("I2 > I2", BYTES(THREE(258, 258, 0), THREE(1, 1, 0)), 8, 0, 0, BYTES(2, 1, 1, 2, 1, 0, 0, 1));
+    fills("s1", BYTES(LETTER, 0, 3, 3, 0, 0, LETTER), 9, 0, 0, BYTES(1, 'A', 0, 1, 'A'));
+    fills("b", BYTES(ONE(7)), 1, 0, 0, BYTES(7));
+    fills("b", BYTES(THREE(7, 8, 9), ONE(1)), 2, 0, 0, BYTES(7, 1)); /* values that are left over are ignored */
+    fills("", BYTES(0, 0, ONE(1), 0, 0), 0, 0, 0, nothing);
+    fills("x", BYTES(0, 0, 0, 0), 3, 0, 0, BYTES(0, 0));
+}
+
+/* Nothing of a format is looked at where there is no record. */
+static void test_empty_run(void)
+{
+    static const char *const formats[] = {"", "b", "q", "c", "!3", "z q", "c9223372036854775807 b"};
+    for (size_t i = 0; i < sizeof formats / sizeof formats[0]; i++) {
+        fills(formats[i], nothing, 0, 0, 0, nothing);
+        fills(formats[i], nothing, 3, 0, 0, nothing);
+    }
+}
+
+/* A list of 65,535 bytes, the longest, between two short ones. */
+static void test_longest_list(void)
+{
+    enum { LONG = 65532, RUN = 6 + 5 + LONG + 6, TRAY = 2 + LONG + 1 + 2 };
+    uint8_t *run = lent(RUN), *tray = lent(TRAY);
+    memcpy(run, BYTES(LETTER, 0xFF, 0xFF, 3, LONG / 256, LONG % 256).start, 11);
+    memset(run + 11, 'B', LONG);
+    memcpy(run + 11 + LONG, BYTES(LETTER).start, 6);
+    memcpy(tray, "A", 2);
+    memset(tray + 2, 'B', LONG);
+    memcpy(tray + 2 + LONG, "\0A", 3);
+    fills("z", (Slice){run, RUN}, TRAY, 0, 0, (Slice){tray, TRAY});
+    fills("z", (Slice){run, RUN}, TRAY - 1, DIGRIBBON_RESULT_TOO_LONG, 0, nothing);
+    refuses("s1", (Slice){run, RUN}, DIGRIBBON_TEXT_DOES_NOT_FIT, 2);
+    refuses("z", (Slice){run, RUN - 1}, DIGRIBBON_DAMAGED_RUN, 0);
+    free(tray);
+    free(run);
+}
+
+/* 23 comes before any record, whatever the format and the lists are. */
+static void test_damaged_runs(void)
+{
+    static const char *const formats[] = {"", "b", "q", "i1"};
+    Slice whole = BYTES(ONE(200), 0, 1, 9, 0, 0, ONE(1)); /* 13 at place 1, 21 at place 2, 11 at place 3 */
+    for (size_t i = 0; i < sizeof formats / sizeof formats[0]; i++) {
+        for (size_t end = 1; end < whole.length; end++)
+            if (end != 13 && end != 16 && end != 18)
+                refuses(formats[i], (Slice){whole.start, end}, DIGRIBBON_DAMAGED_RUN, 0);
+        refuses(formats[i], BYTES(0), DIGRIBBON_DAMAGED_RUN, 0);
+        refuses(formats[i], BYTES(0, 1), DIGRIBBON_DAMAGED_RUN, 0);
+        refuses(formats[i], BYTES(1, 0), DIGRIBBON_DAMAGED_RUN, 0);
+        refuses(formats[i], BYTES(0xFF, 0xFF, 0), DIGRIBBON_DAMAGED_RUN, 0);
+        refuses(formats[i], BYTES(0, 0, 0, 0, 0), DIGRIBBON_DAMAGED_RUN, 0);
+    }
+}
+
+/* The first refused record decides, with its place, whatever the buffer's length. */
+static void test_refused_records(void)
+{
+    refuses("q", BYTES(0, 0), 1, 1);
+    refuses("q", BYTES(ONE(1), ONE(2)), 1, 1);
+    refuses("b q", BYTES(ONE(1), 0, 0), 1, 1);
+    refuses("b q", BYTES(0, 0, ONE(1)), 11, 1);
+    refuses("!4 i3", BYTES(ONE(1)), 6, 1);
+    refuses("i1", BYTES(ONE(200), ONE(1), ONE(2)), 13, 1);
+    refuses("i1", BYTES(ONE(1), ONE(200), ONE(2)), 13, 2);
+    refuses("i1", BYTES(ONE(1), ONE(2), ONE(200)), 13, 3);
+    refuses("i1", BYTES(ONE(1), ONE(200), 0, 0), 13, 2);
+    refuses("i1", BYTES(ONE(1), 0, 0, ONE(200)), 11, 2);
+    refuses("b", BYTES(ONE(1), LETTER), 12, 2);
+    refuses("z", BYTES(LETTER, LETTER, 0, 4, 3, 0, 1, 0), 14, 3);
+    refuses("c0", BYTES(TWO_EMPTY, LETTER), 15, 2);
+    refuses("i1", BYTES(0, 1, 9, ONE(200)), 21, 1); /* 21 in its record's turn */
+    refuses("i1", BYTES(ONE(200), 0, 1, 9), 13, 1);
+    refuses("i1", BYTES(ONE(1), 0, 1, 9, ONE(200)), 21, 2);
+    refuses("q", BYTES(0, 1, 9), 21, 1);
+    refuses("b", BYTES(ONE(1), 0, 3, 1, 0, 8, 0, 0, 0, 0, 0, 0, 0, 0), 21, 2); /* a field ends in its own list */
+}
+
+/* Trays that are far above 2^64 bytes: 22 after all records, no 9, and nothing wraps around. */
+static void test_huge_trays(void)
+{
+    static const char longest[] = "c9223372036854775807"; /* 2^63 - 1 */
+    refuses(longest, BYTES(LETTER), 22, 0);
+    refuses(longest, BYTES(LETTER, LETTER), 22, 0);
+    refuses(longest, BYTES(LETTER, LETTER, LETTER), 22, 0);
+    refuses(longest, BYTES(LETTER, LETTER, LETTER, ONE(1)), 12, 4);
+    refuses(longest, BYTES(LETTER, ONE(1), LETTER, 0, 0), 12, 2);
+    refuses(longest, BYTES(LETTER, LETTER, LETTER, LETTER, LETTER), 22, 0);
+    refuses("c9223372036854775807 x", BYTES(LETTER, LETTER), 9, 1);
+    refuses("c9223372036854775807 z", BYTES(LETTER, TWO_EMPTY), 11, 1);
+    refuses("c9223372036854775807 z", BYTES(TWO_EMPTY, LETTER), 9, 1);
+    refuses("c4611686018427387904", BYTES(LETTER, LETTER, LETTER, LETTER), 22, 0); /* 4 times 2^62: 2^64 */
+    refuses("c6148914691236517206", BYTES(LETTER, LETTER, LETTER), 22, 0);         /* 3 times: 2^64 + 2 */
 }
 
 static void test_reading(void)
@@ -252,14 +401,22 @@ static void test_list_after(void)
     goes_on(nothing, 1, 0);
 }
 
-/* The table has the numbers 1 to 22, each with a name, a cause and a sentence. */
+/* The table has the numbers 1 to 23, each with a name, a cause and a sentence. */
 static void test_table(void)
 {
     unsigned last = 0;
 #define NEXT(number, name, cause, sentence) \
     CHECK(number == ++last && name == number && strlen(cause) > 0 && sentence[strlen(sentence) - 1] == '.');
     DIGRIBBON_REFUSALS(NEXT)
-    CHECK(last == 22 && DIGRIBBON_RESULT_TOO_LONG == 22);
+    CHECK(last == 23 && DIGRIBBON_RESULT_TOO_LONG == 22 && DIGRIBBON_DAMAGED_RUN == 23);
+}
+
+static void test_version(void)
+{
+    char version[16];
+    snprintf(version, sizeof version, "%d.%d.%d", DIGRIBBON_VERSION_NUMBER / 10000,
+             DIGRIBBON_VERSION_NUMBER / 100 % 100, DIGRIBBON_VERSION_NUMBER % 100);
+    CHECK(strcmp(version, DIGRIBBON_VERSION) == 0);
 }
 
 int main(void)
@@ -269,9 +426,16 @@ int main(void)
     test_continued_writing();
     test_parts();
     test_sums();
+    test_trays();
+    test_empty_run();
+    test_longest_list();
+    test_damaged_runs();
+    test_refused_records();
+    test_huge_trays();
     test_reading();
     test_list_after();
     test_table();
+    test_version();
     printf("%u checks passed in C\n", passed);
     return 0;
 }

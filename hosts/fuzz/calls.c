@@ -6,7 +6,7 @@
  *
  * Slices lie at pages that can't be touched, or the result right behind the values or the data. After each call every
  * lent byte is looked at. Then what the calls promise together: sizes, counts, 21 first and 22 last, parts, reading
- * back with other bytes as padding, writing again, bounds.
+ * back with other bytes as padding, writing again, bounds, trays of single records.
  */
 #include "../include/digribbon.h"
 #include "coverage.h"
@@ -19,7 +19,7 @@
 #define MARK UINT64_C(0xA5C396E15A3C691E) /* what an answer holds before a call */
 #define LARGEST (UINT64_MAX / 2)
 
-enum { PAGE = 4096, REGION = 1 << 17, KEPT = 512, NUMBERS = 32 };
+enum { PAGE = 4096, REGION = 1 << 17, KEPT = 512, NUMBERS = 32, RECORDS = 16 };
 
 #define HOLD(promise) \
     do { \
@@ -40,10 +40,11 @@ typedef struct {
 
 static const State START = {0, 1, 0};
 
-/* What a call answers: a refusal's number, or 0, the answer's words, and what it put into the result buffer. */
+/* What a call answers: a refusal's number, or 0, the answer's words, what it put into the result buffer, the place. */
 typedef struct {
     uint64_t number, words[6];
     Slice result;
+    uint64_t place;
 } Outcome;
 
 static bool same(Slice a, Slice b)
@@ -110,19 +111,19 @@ static uint8_t *kept_start(Slice bytes)
 
 /* ---- the calls, and every lent byte after them */
 
-__attribute__((section("__libfuzzer_extra_counters"))) static uint8_t seen[5][NUMBERS];
+__attribute__((section("__libfuzzer_extra_counters"))) static uint8_t seen[6][NUMBERS];
 
-enum { MEASURING, BOUND, PLAIN, CONTINUED, READING };
+enum { MEASURING, BOUND, PLAIN, CONTINUED, READING, TRAY };
 
 static Outcome nothing_yet(void)
 {
-    return (Outcome){0, {MARK, MARK, MARK, MARK, MARK, MARK}, {(const uint8_t *)"", 0}};
+    return (Outcome){0, {MARK, MARK, MARK, MARK, MARK, MARK}, {(const uint8_t *)"", 0}, 0};
 }
 
 /* The answer has so many words; a refusal changes none, and nobody those behind them. */
 static void check_words(const Outcome *outcome, int call, int words)
 {
-    HOLD(outcome->number <= 22);
+    HOLD(outcome->number <= (call == TRAY ? 23 : 22));
     seen[call][outcome->number] = 1;
     for (int i = outcome->number == 0 ? words : 0; i < 6; i++)
         HOLD(outcome->words[i] == MARK);
@@ -188,6 +189,20 @@ static Outcome unpack(Slice format, Slice data, int64_t start, size_t room)
                                       room, outcome.words);
     check_words(&outcome, READING, 2);
     check_bytes(&outcome, format, data, room, outcome.words[0]);
+    return outcome;
+}
+
+static Outcome pack_tray(Slice format, Slice run, size_t room)
+{
+    Outcome outcome = nothing_yet();
+    uint64_t place[2] = {MARK, MARK};
+    uint8_t *tray = lend_room(room);
+    outcome.number = digribbon_pack_tray(lend(FORMAT, format), format.length, lend(SOURCE, run), run.length, tray, room,
+                                         place, outcome.words);
+    HOLD(place[1] == MARK);
+    outcome.place = place[0];
+    check_words(&outcome, TRAY, 1);
+    check_bytes(&outcome, format, run, room, outcome.words[0]);
     return outcome;
 }
 
@@ -475,6 +490,86 @@ static void check_measuring(Slice format, uint64_t data_length)
     HOLD(bound.number != 0 || bound.words[0] <= LARGEST);
 }
 
+/* ---- trays */
+
+/* The list behind the length at so many bytes; nothing where the run ends before it does. */
+static Slice list_in(Slice run, size_t at)
+{
+    Slice list = {NULL, 0};
+    if (run.length - at >= 2)
+        list.length = (size_t)run.start[at] * 256 + run.start[at + 1];
+    if (run.length - at >= 2 + list.length)
+        list.start = run.start + at + 2;
+    return list;
+}
+
+static bool is_run(Slice run)
+{
+    for (size_t at = 0; at < run.length; at += 2 + list_in(run, at).length)
+        if (list_in(run, at).start == NULL)
+            return false;
+    return true;
+}
+
+/* A run of bytes: for each list a byte with the length of its values' bytes, and these. */
+static Slice run_of(Slice bytes)
+{
+    uint8_t *run = kept_start(keep((Slice){(const uint8_t *)"", 0}));
+    size_t length = 0, records = 0;
+    for (size_t at = 0; at < bytes.length && records < RECORDS; records++) {
+        size_t wanted = bytes.start[at++] % 32, there = lesser(wanted, bytes.length - at);
+        Slice list = list_of((Slice){bytes.start + at, there});
+        if (list.length > 65535 || length + 2 + list.length > REGION)
+            break;
+        memcpy(run + length, (uint8_t[]){(uint8_t)(list.length / 256), (uint8_t)list.length}, 2);
+        memcpy(run + length + 2, list.start, list.length);
+        length += 2 + list.length;
+        at += there;
+    }
+    return (Slice){run, length};
+}
+
+/* A tray is refused so whatever the room is. */
+static void check_refused_tray(Slice format, Slice run, const Outcome *whole, uint64_t number, uint64_t place)
+{
+    Outcome without_room = pack_tray(format, run, 0);
+    HOLD(whole->number == number && whole->place == place);
+    HOLD(without_room.number == number && without_room.place == place);
+}
+
+/* A tray is the records of single calls, the first refusal of one, or 22 where all are longer than the room. */
+static void check_tray(Slice format, Slice run)
+{
+    Outcome whole = pack_tray(format, run, REGION), shorter;
+    uint64_t place = 0;
+    size_t length = 0;
+    if (!is_run(run)) {
+        check_refused_tray(format, run, &whole, DIGRIBBON_DAMAGED_RUN, 0);
+        return;
+    }
+    for (size_t at = 0; at < run.length; at += 2 + list_in(run, at).length) {
+        Outcome one = pack_plainly(format, list_in(run, at), REGION);
+        place++;
+        if (one.number != 0 && one.number != 22) {
+            check_refused_tray(format, run, &whole, one.number, place);
+            return;
+        }
+        if (one.number == 22 || length + one.result.length > REGION)
+            length = REGION + 1;
+        else if (whole.number == 0)
+            HOLD(memcmp(whole.result.start + length, one.result.start, one.result.length) == 0);
+        length += one.result.length;
+    }
+    HOLD(whole.number == (length > REGION ? 22 : 0) && whole.place == 0);
+    if (whole.number != 0)
+        return;
+    HOLD(whole.result.length == length && same(pack_tray(format, run, length).result, whole.result));
+    if (length == 0)
+        return;
+    shorter = pack_tray(format, run, length - 1);
+    HOLD(shorter.number == 22 && shorter.place == 0);
+}
+
 /* ---- an input */
 
 static State state_of(uint8_t byte)
@@ -503,9 +598,9 @@ int LLVMFuzzerInitialize(int *argc, char ***argv)
 
 int LLVMFuzzerTestOneInput(const uint8_t *input, size_t size)
 {
-    enum { FLAGS, STATE, CUT, FROM, LENGTH, HEAD, RAW_LIST = 1, AT_FRONT = 2, STRETCHED = 4, BEHIND = 8 };
+    enum { FLAGS, STATE, CUT, FROM, LENGTH, HEAD, RAW_LIST = 1, AT_FRONT = 2, STRETCHED = 4, BEHIND = 8, CUT_RUN = 16 };
     static const uint64_t edges[] = {0, 65535, 65536, LARGEST, LARGEST + 1, UINT64_MAX};
-    Slice format, rest, list, data;
+    Slice format, rest, list, data, run;
     Outcome whole;
     if (size < HEAD || size > 4096)
         return 0;
@@ -527,5 +622,10 @@ int LLVMFuzzerTestOneInput(const uint8_t *input, size_t size)
     if (whole.number != 21)
         check_cut(state_of(input[STATE]), format, list, &whole, input[CUT]);
     check_reading(format, keep(data), (int8_t)input[FROM]);
+    next_kept = 0;
+    run = (input[FLAGS] & RAW_LIST) != 0 ? (Slice){rest.start, lesser(rest.length, 200)} : run_of(rest);
+    if ((input[FLAGS] & CUT_RUN) != 0)
+        run.length -= lesser(run.length, input[CUT] % 4);
+    check_tray(format, run);
     return 0;
 }

@@ -17,7 +17,8 @@
 #include <string.h>
 #include <xmmintrin.h>
 
-enum { ROOM = 1 << 20, LARGEST_BLOCK = 1 << 22, SLACK = 1 << 20, TRIES = 40, VALUES = 100, LONGEST = 65535 };
+enum { ROOM = 1 << 20, LARGEST_BLOCK = 1 << 22, SLACK = 1 << 20, TRIES = 40 };
+enum { VALUES = 100, RECORDS = 12, LONGEST = 65535 };
 
 #define HOLD(promise) \
     do { \
@@ -135,6 +136,45 @@ static void push_values(lua_State *L, Slice bytes)
     }
 }
 
+static struct {
+    uint8_t bytes[RECORDS * (2 + LONGEST)];
+    size_t length;
+    bool has_long_text, has_long_list;
+    uint64_t place;
+} run;
+
+/* Adds the list, as much of it as a format of so many bytes can take. */
+static void add_list(size_t format_length)
+{
+    uint64_t length;
+    digribbon_list_after(list.bytes, list.length, format_length, &length);
+    run.has_long_text = run.has_long_text || list.has_long_text;
+    run.has_long_list = run.has_long_list || length > LONGEST;
+    if (length > LONGEST)
+        return;
+    memcpy(run.bytes + run.length, (uint8_t[]){(uint8_t)(length / 256), (uint8_t)length}, 2);
+    memcpy(run.bytes + run.length + 2, list.bytes, length);
+    run.length += 2 + length;
+}
+
+/* Pushes a table of tables: for each a byte with the length of its values' bytes, and these. */
+static void push_lists(lua_State *L, Slice bytes, size_t format_length)
+{
+    run.length = 0;
+    run.has_long_text = run.has_long_list = false;
+    lua_newtable(L);
+    for (int record = 1; bytes.length > 0 && record <= RECORDS; record++) {
+        size_t wanted = bytes.start[0] % 32, there = wanted < bytes.length - 1 ? wanted : bytes.length - 1;
+        lua_newtable(L);
+        push_values(L, (Slice){bytes.start + 1, there});
+        for (int i = list.count; i > 0; i--)
+            lua_rawseti(L, -1 - i, i);
+        lua_rawseti(L, -2, record);
+        add_list(format_length);
+        bytes = (Slice){bytes.start + 1 + there, bytes.length - 1 - there};
+    }
+}
+
 /* ---- what a function gave, from the stack's index `first` on */
 
 static void check_results(lua_State *L, int first)
@@ -165,15 +205,22 @@ static void check_record(lua_State *L, int first)
     HOLD(memcmp(lua_tostring(L, first), expected.result, expected.words[3]) == 0);
 }
 
-/* The refusal's number; of writing the value too, where it is about one. */
-static void check_refusal(lua_State *L, bool is_writing)
+/* An error of Lua's own: a text, or a list, has more than 65,535 bytes. */
+static bool is_too_long(lua_State *L)
 {
-    if (list.has_long_text && expected.number == DIGRIBBON_WRONG_KIND && lua_type(L, -1) == LUA_TSTRING) {
-        HOLD(strstr(lua_tostring(L, -1), "65,535") != NULL);
+    return lua_type(L, -1) == LUA_TSTRING && strstr(lua_tostring(L, -1), "65,535") != NULL;
+}
+
+/* The refusal's number and, of a tray, its record; of writing the value too, where it is about one. */
+static void check_refusal(lua_State *L, bool is_writing, uint64_t record)
+{
+    if (list.has_long_text && expected.number == DIGRIBBON_WRONG_KIND && is_too_long(L))
         return;
-    }
     HOLD(lua_istable(L, -1) && lua_getfield(L, -1, "number") == LUA_TNUMBER);
     HOLD((uint64_t)lua_tointeger(L, -1) == expected.number);
+    lua_getfield(L, -2, "record");
+    HOLD(record > 0 ? (uint64_t)lua_tointeger(L, -1) == record : lua_isnil(L, -1));
+    lua_pop(L, 1);
     lua_getfield(L, -2, "value");
     if (is_writing && expected.number >= 11 && expected.number <= 15)
         HOLD(lua_tointeger(L, -1) >= 1 && lua_tointeger(L, -1) <= list.count + (expected.number == 11));
@@ -185,7 +232,7 @@ static void check_refusal(lua_State *L, bool is_writing)
 
 /* ---- an input */
 
-enum { PACK, PACKSIZE, UNPACK, WRITER, FUNCTIONS };
+enum { PACK, PACKSIZE, UNPACK, WRITER, TRAY, FUNCTIONS };
 
 static lua_State *lua;
 static int module;
@@ -194,7 +241,7 @@ static size_t memory_at_start;
 /* Pushes the function and its arguments, and works out what is expected. */
 static void prepare(int function, State from, int64_t start, Slice format, Slice rest)
 {
-    static const char *const names[] = {"pack", "packsize", "unpack", "writer"};
+    static const char *const names[] = {"pack", "packsize", "unpack", "writer", "pack_tray"};
     lua_rawgeti(lua, LUA_REGISTRYINDEX, module);
     lua_getfield(lua, -1, names[function]);
     if (function == WRITER) {
@@ -214,6 +261,12 @@ static void prepare(int function, State from, int64_t start, Slice format, Slice
         lua_pushinteger(lua, start);
         expected.number = digribbon_unpack(format.start, format.length, rest.start, rest.length, start,
                                            expected.result, ROOM, expected.words);
+    } else if (function == TRAY) {
+        push_lists(lua, rest, format.length);
+        expected.number = digribbon_pack_tray(format.start, format.length, run.bytes, run.length, expected.result, ROOM,
+                                              &run.place, &expected.words[3]);
+        list.count = VALUES; /* of whichever list */
+        list.has_long_text = run.has_long_text;
     } else {
         push_values(lua, rest);
         expected.number = digribbon_pack_continued(from.order, from.limit, from.length, format.start, format.length,
@@ -239,8 +292,12 @@ static int call(long blocks, unsigned environment)
 
 static void check(int function, int status, int first, const State *state, State from)
 {
-    bool is_writing = function == PACK || function == WRITER;
+    bool is_writing = function == PACK || function == WRITER || function == TRAY;
     State next = {expected.words[0], expected.words[1], expected.words[2]};
+    if (function == TRAY && run.has_long_list) {
+        HOLD(status == LUA_ERRRUN && is_too_long(lua));
+        return;
+    }
     if (expected.number == DIGRIBBON_RESULT_TOO_LONG) { /* only the result's length is in the way */
         HOLD(status == LUA_OK || status == LUA_ERRMEM);
         return;
@@ -248,15 +305,15 @@ static void check(int function, int status, int first, const State *state, State
     HOLD((status == LUA_OK) == (expected.number == 0));
     HOLD(state == NULL || memcmp(state, status == LUA_OK ? &next : &from, sizeof from) == 0);
     if (status != LUA_OK) {
-        check_refusal(lua, is_writing);
+        check_refusal(lua, is_writing, function == TRAY ? run.place : 0);
     } else if (function == PACKSIZE) {
         HOLD((uint64_t)lua_tointeger(lua, first) == expected.words[0]);
     } else if (function == UNPACK) {
         check_results(lua, first);
     } else {
         check_record(lua, first);
-        HOLD(function == PACK || ((uint64_t)lua_tointeger(lua, first + 1) == expected.words[4] &&
-                                  (uint64_t)lua_tointeger(lua, first + 2) == expected.words[5]));
+        HOLD(function != WRITER || ((uint64_t)lua_tointeger(lua, first + 1) == expected.words[4] &&
+                                    (uint64_t)lua_tointeger(lua, first + 2) == expected.words[5]));
     }
 }
 

@@ -1,5 +1,6 @@
 /*
- * Digribbon: Lua's string.packsize, string.pack and string.unpack over lent memory, with continued writing.
+ * Digribbon: Lua's string.packsize, string.pack and string.unpack over lent memory, with continued writing and trays of
+ * records.
  *
  * The archive is for x86-64 Linux. Link it, and behind it the math library, which the remainder of a float under T
  * needs:
@@ -9,17 +10,17 @@
  * Every call
  *   - returns 0 and fills its answer, or returns a refusal's number (DIGRIBBON_REFUSALS below). A refusal changes no
  *     lent byte, those of the answer included. An accepted call changes its answer and the first bytes of its result
- *     buffer, as many as the answer says, and no others. What a result buffer or an answer held before has no
- *     influence.
+ *     buffer, as many as the answer says, and no others. There is one exception: digribbon_pack_tray sets its place[0]
+ *     in every case, accepted or refused. What a result buffer, an answer or a place held before has no influence.
  *   - allocates nothing and keeps nothing. All memory belongs to the caller and is lent until the call returns.
- *   - may run while others run in other threads, each with result buffers and an answer of its own. There is no state
- *     between calls.
+ *   - may run while others run in other threads, each with result buffers, an answer and a place of its own. There is
+ *     no state between calls.
  *
  * The caller sees to it that
  *   - a slice is a pointer and a length in bytes, and the pointer is not NULL, also where the length is 0;
  *   - no slice's length is above 2^63-1;
- *   - an answer is aligned as a uint64_t is, and has as many of them as its call's declaration says;
- *   - the buffers of one call, its answer among them, do not overlap (those that are only read may);
+ *   - an answer or a place is aligned as a uint64_t is, and has as many of them as its call's declaration says;
+ *   - the buffers of one call, its answer and its place among them, do not overlap (those that are only read may);
  *   - nobody changes a lent byte during the call. A call first checks its input and then puts the result, trusting
  *     what it has checked. Where a byte changes in between nothing is promised, not even that the call reads and
  *     writes inside what it was lent. So bytes that others can change, as in memory that is shared, are copied first;
@@ -45,13 +46,21 @@
 #include <stddef.h>
 #include <stdint.h>
 
+/*
+ * The version of header and archive, as text and as a number for #if: 10,000, 100 and 1 times its three numbers. The
+ * last of these rises where something is added, the middle one where an answer changes.
+ */
+#define DIGRIBBON_VERSION "0.1.1"
+#define DIGRIBBON_VERSION_NUMBER 101
+
 #if SIZE_MAX < UINT64_MAX
 #error "Digribbon is for hosts with a size_t of 8 bytes."
 #endif
 
 /*
  * Every refusal: its number, its name, who causes it, what it says. The first failing check decides; 21 comes first of
- * all and 22 last of all. For code about each of them, give a macro of four arguments:
+ * all and 22 last of all; in a tray 23 comes first, and 21 in its record's turn. For code about each of them, give a
+ * macro of four arguments:
  *
  *     #define SENTENCE(number, name, cause, sentence) case name: return sentence;
  *
@@ -83,7 +92,8 @@
     refusal(19, DIGRIBBON_MISSING_ZERO, "card data", "A text of z has no zero at its end.") \
     refusal(20, DIGRIBBON_TEXT_ABOVE_65535, "card data", "A text is longer than 65,535 bytes.") \
     refusal(21, DIGRIBBON_MALFORMED, "host program", "The value list is malformed, the data or the state's length is above 2^63-1, or the state's limit is no power of two of 1 to 16.") \
-    refusal(22, DIGRIBBON_RESULT_TOO_LONG, "host program", "The result is longer than the lent buffer.")
+    refusal(22, DIGRIBBON_RESULT_TOO_LONG, "host program", "The result is longer than the lent buffer.") \
+    refusal(23, DIGRIBBON_DAMAGED_RUN, "host program", "The lengths of a run's lists don't end at its last byte.")
 
 /* The numbers by name: DIGRIBBON_UNKNOWN_OPTION is 1, and so on. */
 #define DIGRIBBON_NUMBER(number, name, cause, sentence) name = number,
@@ -177,6 +187,35 @@ uint64_t digribbon_pack_continued(uint64_t order, uint64_t limit, uint64_t lengt
                                   const uint8_t *list, size_t list_len,
                                   uint8_t *record, size_t record_len,
                                   uint64_t answer[6]);
+
+/*
+ * A tray: the records of many value lists by one format, back to back in one buffer. Each is laid out from the start
+ * state, as digribbon_pack lays it out alone: neither byte order, limit nor length goes on from one to the next.
+ *
+ *     format     the options
+ *     run        the value lists, one after the other, each behind its length (2 bytes, big-endian): a list has at most
+ *                65,535 bytes, and an empty one is a list too
+ *     tray       the result buffer
+ *     place[0]   which record was refused, from 1; 0 for 22 and 23, which are about the whole tray, and 0 where the
+ *                tray was accepted. Every call sets it
+ *     answer[0]  the tray's length
+ *
+ * A run of no bytes is accepted for every format, and gives a tray of no bytes. Otherwise the run's lengths are checked
+ * first (23). Then each record in turn meets the checks of digribbon_pack but for 22, and the first that is refused
+ * decides, whatever the buffer's length. 21 is about the record's own list, 9 about its own length. After all records
+ * the buffer's length is checked (22), for the whole tray.
+ *
+ * A buffer suffices that is as long as those together which digribbon_pack would be lent for each list alone: for each
+ * list what digribbon_packsize says or, for every format, the list's length, 16 for each byte of the format, and the
+ * numerals behind its c (by the same rule of thumb).
+ *
+ * Refusals: 1 to 9, 11 to 15, 21, 22, 23. They leave answer[0] and every byte of the tray's buffer as they were.
+ */
+uint64_t digribbon_pack_tray(const uint8_t *format, size_t format_len,
+                             const uint8_t *run, size_t run_len,
+                             uint8_t *tray, size_t tray_len,
+                             uint64_t place[1],
+                             uint64_t answer[1]);
 
 /*
  * Reading: takes the values out of data.

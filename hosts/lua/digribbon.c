@@ -1,5 +1,5 @@
 /*
- * The module "digribbon" for Lua 5.4 and later: pack, packsize, unpack, and a writer for continued writing.
+ * The module "digribbon" for Lua 5.4 and later: pack, pack_tray, packsize, unpack, and a writer for continued writing.
  *
  * Memory is the C stack's or a block of Lua's own, so an error that is raised here loses none. Whatever asks Lua for
  * memory can run finalizers, and so any code, that of the module included.
@@ -88,33 +88,57 @@ static int shown(lua_State *L, int argument)
     return argument - is_method;
 }
 
+/* What a refusal is about: an argument; which value, from 1, or 0; which record of a tray, from 1, or 0. */
+typedef struct {
+    int argument, value;
+    lua_Integer record;
+} About;
+
+static void set_place(lua_State *L, const char *name, lua_Integer place)
+{
+    if (place > 0) {
+        lua_pushinteger(L, place);
+        lua_setfield(L, -2, name);
+    }
+}
+
+/* Pushes where in a tray a refusal is; elsewhere the argument says it. */
+static void push_place(lua_State *L, About about)
+{
+    if (about.record == 0)
+        lua_pushliteral(L, "");
+    else if (about.value == 0)
+        lua_pushfstring(L, " at record %I", about.record);
+    else
+        lua_pushfstring(L, " at value %d of record %I", about.value, about.record);
+}
+
 /*
- * Raises a refusal that is about an argument: a table with its number, sentence and cause, and as text a message as
- * Lua's own of bad arguments, with the caller's place. `value` is the argument's place among the values, or 0.
+ * Raises a refusal: a table with its number, sentence and cause, the value and the record that it is about, and as text
+ * a message as Lua's own of bad arguments, with the caller's place.
  */
-static int refuse(lua_State *L, const char *function, uint64_t number, int argument, int value)
+static int refuse(lua_State *L, const char *function, uint64_t number, About about)
 {
     const char *cause = "unknown", *sentence = "The library gave a number that this module does not know.";
     if (number < sizeof refusals / sizeof refusals[0]) {
         cause = refusals[number].cause;
         sentence = refusals[number].sentence;
     }
-    lua_createtable(L, 0, 5);
+    lua_createtable(L, 0, 6);
     lua_pushinteger(L, (lua_Integer)number);
     lua_setfield(L, -2, "number");
     lua_pushstring(L, sentence);
     lua_setfield(L, -2, "sentence");
     lua_pushstring(L, cause);
     lua_setfield(L, -2, "cause");
-    if (value > 0) {
-        lua_pushinteger(L, value);
-        lua_setfield(L, -2, "value");
-    }
+    set_place(L, "value", about.value);
+    set_place(L, "record", about.record);
     luaL_where(L, 1);
-    lua_pushfstring(L, "%sbad argument #%d to '%s' (refusal %d: %s)", lua_tostring(L, -1), shown(L, argument), function,
-                    (int)number, sentence);
-    lua_setfield(L, -3, "message");
-    lua_pop(L, 1);
+    push_place(L, about);
+    lua_pushfstring(L, "%sbad argument #%d to '%s' (refusal %d%s: %s)", lua_tostring(L, -2), shown(L, about.argument),
+                    function, (int)number, lua_tostring(L, -1), sentence);
+    lua_setfield(L, -4, "message");
+    lua_pop(L, 2);
     luaL_setmetatable(L, REFUSAL);
     return lua_error(L);
 }
@@ -146,26 +170,32 @@ static uint8_t *put_number(uint8_t *at, int tag, uint64_t bits)
 }
 
 /* A text that is longer than a list can hold is a value that no option takes. */
-static bool is_text(lua_State *L, int argument)
+static bool is_text(lua_State *L, int index)
 {
-    return lua_type(L, argument) == LUA_TSTRING && lua_rawlen(L, argument) <= LONGEST;
+    return lua_type(L, index) == LUA_TSTRING && lua_rawlen(L, index) <= LONGEST;
 }
 
-static size_t field_length(lua_State *L, int argument)
+static bool is_long_text(lua_State *L, int index)
 {
-    if (lua_type(L, argument) == LUA_TNUMBER)
+    return lua_type(L, index) == LUA_TSTRING && !is_text(L, index);
+}
+
+static size_t field_length(lua_State *L, int index)
+{
+    if (lua_type(L, index) == LUA_TNUMBER)
         return HEAD + NUMBER;
-    return HEAD + (is_text(L, argument) ? lua_rawlen(L, argument) : 0);
+    return HEAD + (is_text(L, index) ? lua_rawlen(L, index) : 0);
 }
 
-static uint8_t *put_argument(lua_State *L, int argument, uint8_t *at)
+/* Inlined at both of its callers: a call costs 16 instructions a value. */
+static inline __attribute__((always_inline)) uint8_t *put_value(lua_State *L, int index, uint8_t *at)
 {
-    if (is_text(L, argument))
-        return put_field(at, TEXT, lua_tostring(L, argument), lua_rawlen(L, argument));
-    if (lua_isinteger(L, argument))
-        return put_number(at, INTEGER, (uint64_t)lua_tointeger(L, argument));
-    if (lua_type(L, argument) == LUA_TNUMBER) {
-        double number = lua_tonumber(L, argument);
+    if (is_text(L, index))
+        return put_field(at, TEXT, lua_tostring(L, index), lua_rawlen(L, index));
+    if (lua_isinteger(L, index))
+        return put_number(at, INTEGER, (uint64_t)lua_tointeger(L, index));
+    if (lua_type(L, index) == LUA_TNUMBER) {
+        double number = lua_tonumber(L, index);
         uint64_t bits;
         memcpy(&bits, &number, sizeof bits);
         return put_number(at, FLOAT, bits);
@@ -182,7 +212,7 @@ static Slice list_of(lua_State *L, int first, int count, uint8_t small[SMALL])
         length += field_length(L, first + i);
     start = end = memory(L, length, small);
     for (int i = 0; i < count; i++)
-        end = put_argument(L, first + i, end);
+        end = put_value(L, first + i, end);
     return (Slice){start, length};
 }
 
@@ -216,20 +246,31 @@ static int push_values(lua_State *L, Slice list)
 
 enum { FLAGS = 0x3F, DEFAULT = 0x1F80 }; /* of MXCSR: what happened so far; the default but for these */
 
-/* Continued writing in the default float environment, on which T of a float depends. */
+/* Sets the default float environment, on which T of a float depends, and gives the one that was found. */
+static unsigned set_default_environment(void)
+{
+    unsigned environment = _mm_getcsr();
+    if ((environment & ~(unsigned)FLAGS) != DEFAULT)
+        _mm_setcsr(DEFAULT);
+    return environment;
+}
+
+static void set_back_environment(unsigned environment)
+{
+    if ((environment & ~(unsigned)FLAGS) != DEFAULT)
+        _mm_setcsr(environment);
+}
+
+/* Continued writing. */
 static uint64_t write_record(const Writing *writing, uint8_t *record, size_t room, Written *written)
 {
     const State *from = &writing->from;
     Slice format = writing->format, list = writing->list;
     uint64_t answer[6], number;
-    unsigned environment = _mm_getcsr();
-    bool is_default = (environment & ~(unsigned)FLAGS) == DEFAULT;
-    if (!is_default)
-        _mm_setcsr(DEFAULT);
+    unsigned environment = set_default_environment();
     number = digribbon_pack_continued(from->order, from->limit, from->length, format.start, format.length, list.start,
                                       list.length, record, room, answer);
-    if (!is_default)
-        _mm_setcsr(environment);
+    set_back_environment(environment);
     if (number == 0)
         *written = (Written){{answer[0], answer[1], answer[2]}, answer[3], answer[4], answer[5]};
     return number;
@@ -273,15 +314,19 @@ static int refused_value(const Writing *writing, uint64_t number, int count)
     return position;
 }
 
+/* Whether a refusal of writing is about a value. */
+static bool is_about_value(uint64_t number)
+{
+    return number >= DIGRIBBON_NO_VALUE_LEFT && number <= DIGRIBBON_TEXT_DOES_NOT_FIT;
+}
+
 /* Raises a refusal of writing, where the format is argument `at` and so many values follow. */
 static int refuse_writing(lua_State *L, const Writing *writing, uint64_t number, int at, int count)
 {
-    int value = 0;
-    if (number >= DIGRIBBON_NO_VALUE_LEFT && number <= DIGRIBBON_TEXT_DOES_NOT_FIT)
-        value = refused_value(writing, number, count);
-    if (number == DIGRIBBON_WRONG_KIND && lua_type(L, at + value) == LUA_TSTRING && !is_text(L, at + value))
+    int value = is_about_value(number) ? refused_value(writing, number, count) : 0;
+    if (number == DIGRIBBON_WRONG_KIND && is_long_text(L, at + value))
         return luaL_argerror(L, at + value, "a text has at most 65,535 bytes");
-    return refuse(L, "pack", number, at + value, value);
+    return refuse(L, "pack", number, (About){at + value, value, 0});
 }
 
 /*
@@ -318,6 +363,148 @@ static void push_bytes(lua_State *L, const Part *part)
     lua_pushlstring(L, (const char *)part->bytes, part->answer.written);
 }
 
+/* ---- trays */
+
+enum { TRAY_FORMAT = 1, LISTS, KEY }; /* on pack_tray's stack: the format, the lists, the text "n" */
+enum { LENGTH = 2 };                  /* bytes of the length before a list */
+
+/* A format, and the lists as a run. */
+typedef struct {
+    Slice format, run;
+    size_t records;
+} Tray;
+
+/*
+ * Pushes a record's table, and gives how many of its values are looked at: n, where the table has it, else its length,
+ * but no more than the format has bytes. Neither runs code of Lua nor asks for memory, unless it raises an error.
+ */
+static size_t push_record(lua_State *L, size_t record, size_t format_length)
+{
+    lua_Integer count;
+    int is_integer = 1;
+    if (lua_rawgeti(L, LISTS, (lua_Integer)record) != LUA_TTABLE)
+        luaL_argerror(L, LISTS, lua_pushfstring(L, "record %I: table expected, got %s", (lua_Integer)record,
+                                                luaL_typename(L, -1)));
+    lua_pushvalue(L, KEY);
+    if (lua_rawget(L, -2) == LUA_TNIL)
+        count = (lua_Integer)lua_rawlen(L, -2);
+    else
+        count = lua_tointegerx(L, -1, &is_integer);
+    if (!is_integer || count < 0)
+        luaL_argerror(L, LISTS, lua_pushfstring(L, "record %I: n is no count of values", (lua_Integer)record));
+    lua_pop(L, 1);
+    return (size_t)count < format_length ? (size_t)count : format_length;
+}
+
+/* How long a record's list is, its length's bytes included. */
+static size_t list_length(lua_State *L, size_t record, size_t format_length)
+{
+    size_t length = 0, count = push_record(L, record, format_length);
+    for (size_t i = 1; i <= count; i++) {
+        lua_rawgeti(L, -1, (lua_Integer)i);
+        length += field_length(L, -1);
+        lua_pop(L, 1);
+    }
+    lua_pop(L, 1);
+    if (length > LONGEST)
+        luaL_argerror(L, LISTS, lua_pushfstring(L, "record %I: the values take more than 65,535 bytes",
+                                                (lua_Integer)record));
+    return LENGTH + length;
+}
+
+static uint8_t *put_list(lua_State *L, size_t record, size_t format_length, uint8_t *at)
+{
+    uint8_t *end = at + LENGTH;
+    size_t count = push_record(L, record, format_length), length;
+    for (size_t i = 1; i <= count; i++) {
+        lua_rawgeti(L, -1, (lua_Integer)i);
+        end = put_value(L, -1, end);
+        lua_pop(L, 1);
+    }
+    lua_pop(L, 1);
+    length = (size_t)(end - at - LENGTH);
+    at[0] = (uint8_t)(length / 256);
+    at[1] = (uint8_t)(length % 256);
+    return end;
+}
+
+/* Measures the run, and gives how long it is. */
+static size_t run_length(lua_State *L, Tray *tray)
+{
+    size_t length = 0;
+    tray->records = lua_rawlen(L, LISTS);
+    for (size_t record = 1; record <= tray->records; record++)
+        length += list_length(L, record, tray->format.length);
+    return length;
+}
+
+/* Makes the run. To get memory for it can run a finalizer, which may change the tables, so they are measured again. */
+static void make_run(lua_State *L, Tray *tray, uint8_t small[SMALL])
+{
+    size_t room = SMALL, length;
+    uint8_t *start = small, *end;
+    while ((length = run_length(L, tray)) > room) {
+        lua_settop(L, KEY);
+        room = length;
+        start = memory(L, room, small);
+    }
+    end = start;
+    for (size_t record = 1; record <= tray->records; record++)
+        end = put_list(L, record, tray->format.length, end);
+    tray->run = (Slice){start, length};
+}
+
+/* Room for a tray that gave 22, so has records: the header's sum, or 2^63-1 where that is less, which can't be had. */
+static size_t tray_room(const Tray *tray)
+{
+    size_t each = 16 * tray->format.length + sizes_of_c(tray->format), most = SIZE_MAX / 2 - tray->run.length;
+    return tray->run.length + (each > most / tray->records ? most : each * tray->records);
+}
+
+static uint64_t write_tray(const Tray *tray, uint8_t *bytes, size_t room, uint64_t *place, uint64_t *length)
+{
+    unsigned environment = set_default_environment();
+    uint64_t number = digribbon_pack_tray(tray->format.start, tray->format.length, tray->run.start, tray->run.length,
+                                          bytes, room, place, length);
+    set_back_environment(environment);
+    return number;
+}
+
+/* A record's list, from 1. */
+static Slice list_at(Slice run, uint64_t record)
+{
+    const uint8_t *at = run.start;
+    for (; record > 1; record--)
+        at += LENGTH + (size_t)at[0] * 256 + at[1];
+    return (Slice){at + LENGTH, (size_t)at[0] * 256 + at[1]};
+}
+
+static int field_count(Slice list)
+{
+    int count = 0;
+    for (const uint8_t *field = list.start, *end = field + list.length; field < end; count++)
+        field += HEAD + (size_t)field[1] * 256 + field[2];
+    return count;
+}
+
+/* Raises a refusal of a tray. */
+static int refuse_tray(lua_State *L, const Tray *tray, uint64_t number, uint64_t place)
+{
+    About about = {TRAY_FORMAT, 0, (lua_Integer)place};
+    if (is_about_value(number)) {
+        Writing writing = {{0, 1, 0}, tray->format, list_at(tray->run, place)};
+        about.argument = LISTS;
+        about.value = refused_value(&writing, number, field_count(writing.list));
+    }
+    if (number == DIGRIBBON_WRONG_KIND && lua_rawgeti(L, LISTS, about.record) == LUA_TTABLE) {
+        lua_rawgeti(L, -1, about.value);
+        if (is_long_text(L, -1))
+            return luaL_argerror(L, LISTS, lua_pushfstring(L, "value %d of record %I: a text has at most 65,535 bytes",
+                                                           about.value, about.record));
+    }
+    return refuse(L, "pack_tray", number, about);
+}
+
 /* ---- the module's functions */
 
 /* pack(fmt, v1, v2, ...): the record */
@@ -330,6 +517,32 @@ static int pack(lua_State *L)
     return 1;
 }
 
+/* pack_tray(fmt, {{v1, v2, ...}, {v1, v2, ...}, ...}): the records of all tables, back to back */
+static int pack_tray(lua_State *L)
+{
+    Small small;
+    Tray tray = {.format = check_text(L, TRAY_FORMAT)};
+    size_t room;
+    uint8_t *bytes;
+    uint64_t place, length, number;
+    luaL_checktype(L, LISTS, LUA_TTABLE);
+    lua_settop(L, LISTS);
+    lua_pushliteral(L, "n");
+    make_run(L, &tray, small.list);
+    room = tray.run.length + 16 * tray.format.length; /* enough for records that are hardly longer than their lists */
+    bytes = memory(L, room, small.record);
+    number = write_tray(&tray, bytes, room, &place, &length);
+    if (number == DIGRIBBON_RESULT_TOO_LONG) {
+        room = tray_room(&tray);
+        bytes = memory(L, room, small.record);
+        number = write_tray(&tray, bytes, room, &place, &length);
+    }
+    if (number != 0)
+        return refuse_tray(L, &tray, number, place);
+    lua_pushlstring(L, (const char *)bytes, length);
+    return 1;
+}
+
 /* packsize(fmt): the record's length */
 static int packsize(lua_State *L)
 {
@@ -337,7 +550,7 @@ static int packsize(lua_State *L)
     uint64_t size;
     uint64_t number = digribbon_packsize(format.start, format.length, &size);
     if (number != 0)
-        return refuse(L, "packsize", number, 1, 0);
+        return refuse(L, "packsize", number, (About){1, 0, 0});
     lua_pushinteger(L, (lua_Integer)size);
     return 1;
 }
@@ -375,7 +588,7 @@ static int unpack(lua_State *L)
         number = digribbon_unpack(format.start, format.length, data.start, data.length, start, list, room, answer);
     }
     if (number != 0)
-        return refuse(L, "unpack", number, refused_argument(number), 0);
+        return refuse(L, "unpack", number, (About){refused_argument(number), 0, 0});
     count = push_values(L, (Slice){list, answer[0]});
     luaL_checkstack(L, 1, "too many results");
     lua_pushinteger(L, (lua_Integer)answer[1]);
@@ -393,10 +606,10 @@ static void check_state(lua_State *L, State state)
     Written written;
     uint64_t number = write_record(&by_limit, &record, 0, &written);
     if (number != 0)
-        refuse(L, "writer", number, 2, 0);
+        refuse(L, "writer", number, (About){2, 0, 0});
     number = write_record(&by_length, &record, 0, &written);
     if (number != 0)
-        refuse(L, "writer", number, 3, 0);
+        refuse(L, "writer", number, (About){3, 0, 0});
 }
 
 /* writer([order [, limit [, length]]]): a writer at that state, else at the start state */
@@ -452,7 +665,8 @@ static int writer_state(lua_State *L)
 }
 
 static const luaL_Reg functions[] = {
-    {"pack", pack}, {"packsize", packsize}, {"unpack", unpack}, {"writer", writer}, {NULL, NULL}};
+    {"pack", pack},     {"pack_tray", pack_tray}, {"packsize", packsize},
+    {"unpack", unpack}, {"writer", writer},       {NULL, NULL}};
 
 static const luaL_Reg writer_methods[] = {{"pack", writer_pack}, {"state", writer_state}, {NULL, NULL}};
 
@@ -465,5 +679,7 @@ __attribute__((visibility("default"))) int luaopen_digribbon(lua_State *L)
     luaL_newlib(L, writer_methods);
     lua_setfield(L, -2, "__index");
     luaL_newlib(L, functions);
+    lua_pushliteral(L, DIGRIBBON_VERSION);
+    lua_setfield(L, -2, "_VERSION");
     return 1;
 }

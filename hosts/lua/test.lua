@@ -1,7 +1,7 @@
 -- Tests of the module, and profiles as users write them. The last line says how many tests passed.
 local digribbon = require "digribbon"
 local testing = require "testing"
-local pack, packsize, unpack = digribbon.pack, digribbon.packsize, digribbon.unpack
+local pack, pack_tray, packsize, unpack = digribbon.pack, digribbon.pack_tray, digribbon.packsize, digribbon.unpack
 
 local passed = 0
 local function test(name, body)
@@ -98,6 +98,52 @@ test("writer: parts give the whole", function()
     same({ 6 }, used)
 end)
 
+test("pack_tray", function()
+    same({ "\1\0\2\0\3\0\4\0" }, pack_tray("<!2 b h", { { 1, 2 }, { 3, 4 } }))
+    same({ "\1\0\2\0\3\4\0\5\0\6" }, pack_tray("<!2 b h b", { { 1, 2, 3 }, { 4, 5, 6 } }))
+    same({ "\2\1\1\2\1\0\0\1" }, pack_tray("I2 > I2", { { 258, 258 }, { 1, 1 } }))
+    same({ "\1A\0\2BC" }, pack_tray("s1", { { "A" }, { "" }, { "BC" } }))
+    same({ "\7\1" }, pack_tray("b", { { 7, "left over", {}, print }, { 1.0 } }, "ignored"))
+    same({ "\0\0\0" }, pack_tray("x", { {}, {}, {} }))
+    same({ "" }, pack_tray("", { {}, { 1 } }))
+    for _, format in ipairs { "", "b", "q", "c", "!3", "c9223372036854775807 b" } do
+        same({ "" }, pack_tray(format, {}))
+    end
+end)
+
+test("pack_tray: the examples of docs/FORMAT.md", function()
+    local page <close> = assert(io.open("../../docs/FORMAT.md"))
+    local count = 0
+    for line in page:lines() do
+        local call, expected = line:match("^(pack_tray%(.*%)) +%-%-> (.*)$")
+        if call then
+            local ok, given = pcall(assert(load("return " .. call, call, "t", digribbon)))
+            if ok then
+                given = #given == 0 and "no bytes" or given:gsub(".", function(c) return ("%02X "):format(c:byte()) end)
+                given = given:gsub(" $", "")
+            else
+                given = ("refused %d, record %d"):format(given.number, given.record)
+            end
+            assert(given == expected, call)
+            count = count + 1
+        end
+    end
+    assert(count == 5, count)
+end)
+
+test("pack_tray: the values of a table go by n, else by its length", function()
+    same({ "\1\2" }, pack_tray("b", { table.pack(1), table.pack(2, nil, 3) }))
+    assert(refused(12, pack_tray, "bb", { table.pack(1, nil) }).value == 2)
+    assert(refused(12, pack_tray, "bb", { { n = 2, 1 } }).value == 2)
+    assert(refused(11, pack_tray, "bb", { { n = 1, 1, 2 } }).value == 2)
+    assert(refused(11, pack_tray, "bb", { { 1, nil } }).value == 2)
+    same({ "\1" }, pack_tray("b", { { n = 1.0, 1 } }))
+    same({ "\1" }, pack_tray("b", { { n = math.maxinteger, 1 } }))
+    local proxy = setmetatable({}, { __index = { 1, 2, n = 2 }, __len = function() return 2 end })
+    assert(refused(11, pack_tray, "b", { proxy }).value == 1)
+    same({ "" }, pack_tray("b", proxy))
+end)
+
 ---- refusals
 
 test("every refusal of formats, values and data", function()
@@ -159,6 +205,71 @@ test("a refusal names its argument", function()
     about(1, "pack", function() writer:pack("q") end)
 end)
 
+test("pack_tray: the first refused record decides", function()
+    local function about(record, value, number, format, lists)
+        local refusal = refused(number, pack_tray, format, lists)
+        assert(refusal.record == record and refusal.value == value, tostring(refusal))
+    end
+    about(1, nil, 1, "q", { {} })
+    about(1, nil, 1, "b q", { { 1 }, {} })
+    about(1, 1, 11, "b q", { {}, { 1 } })
+    about(1, nil, 6, "!4 i3", { { 1 } })
+    about(1, 1, 13, "i1", { { 200 }, { 1 }, { 2 } })
+    about(2, 1, 13, "i1", { { 1 }, { 200 }, { 2 } })
+    about(3, 1, 13, "i1", { { 1 }, { 2 }, { 200 } })
+    about(2, 1, 13, "i1", { { 1 }, { 200 }, {} })
+    about(2, 1, 11, "i1", { { 1 }, {}, { 200 } })
+    about(2, 3, 12, "bbz", { { 1, 2, "A" }, { 3, 4, 5 } })
+    about(2, 1, 14, "z", { { "A" }, { "A\0" } })
+    about(1, 1, 15, "c0", { { "A" } })
+    local text = { "A" }
+    about(1, nil, 9, "c9223372036854775807 x", { text, text })
+    about(4, 1, 12, "c9223372036854775807", { text, text, text, { 1 } })
+end)
+
+test("pack_tray: a refusal says number, sentence, cause, record, value and place", function()
+    local refusal = refused(13, function() return (pack_tray("<i2 i1", { { 7, 8 }, { 7, 200 } })) end)
+    assert(refusal.sentence == "An integer is out of its option's range.")
+    assert(refusal.cause == "supplier of values" and refusal.record == 2 and refusal.value == 2)
+    local place, message = tostring(refusal):match("^(test%.lua:%d+: )(.*)$")
+    assert(place and message == "bad argument #2 to 'pack_tray' " ..
+        "(refusal 13 at value 2 of record 2: An integer is out of its option's range.)")
+    refusal = refused(5, pack_tray, "b !3", { { 1 } })
+    assert(tostring(refusal) ==
+        "bad argument #1 to 'pack_tray' (refusal 5 at record 1: The limit of ! is no power of two.)")
+    assert(refusal.cause == "profile author" and refused(13, pack, "i1", 200).record == nil)
+end)
+
+test("pack_tray: errors that are no refusals", function()
+    local long = ("A"):rep(65536)
+    failed("bad argument #1 to 'digribbon.pack_tray' (string expected", pack_tray)
+    failed("bad argument #2 to 'digribbon.pack_tray' (table expected, got no value)", pack_tray, "b")
+    failed("bad argument #2 to 'digribbon.pack_tray' (record 2: table expected, got number)", pack_tray, "b", { {}, 7 })
+    failed("(record 1: table expected, got nil)", pack_tray, "b", setmetatable({ nil, {} }, { __len = error }))
+    for _, n in ipairs { -1, 1.5, "many", {}, true } do
+        failed("(record 2: n is no count of values)", pack_tray, "b", { { 1 }, { n = n, 1 } })
+    end
+    failed("(value 2 of record 3: a text has at most 65,535 bytes)", pack_tray, "bz",
+        { { 1, "A" }, { 2, "B" }, { 3, long } })
+    refused(13, pack_tray, "i1z", { { 200, "A" }, { 1, long } })
+    same({ "\1" }, pack_tray("b     ", { { 1, long } }))
+    failed("memory", pack_tray, "c9223372036854775000z", { { "A", "B" } })
+    for records, format in pairs { [3] = "c9223372036854775807", [4] = "c4611686018427387904" } do
+        local lists = {}
+        for i = 1, records do lists[i] = { "A" } end
+        failed("memory", pack_tray, format, lists)
+    end
+end)
+
+test("pack_tray: a list takes at most 65,535 bytes", function()
+    local longest = { ("A"):rep(65529), "" }
+    same({ longest[1] .. "\0" .. longest[1] .. "\0" }, pack_tray("z  ", { longest, longest }))
+    longest[3] = ("B"):rep(60000)
+    same({ longest[1] .. "\0" }, pack_tray("zx", { longest }):sub(1, -2))
+    failed("bad argument #2 to 'digribbon.pack_tray' (record 2: the values take more than 65,535 bytes)", pack_tray,
+        "i1 ", { { 200 }, longest })
+end)
+
 test("a refusal names its value among many", function()
     local values = {}
     for i = 1, 200 do values[i] = i end
@@ -196,7 +307,7 @@ test("a finalizer that uses the writer loses no part", function()
     local pause, multiplier = collectgarbage("setpause", 0), collectgarbage("setstepmul", 1000)
     collectgarbage() -- so that the pause counts from now on
     arm()
-    for i = 1, 200 do
+    for i = 1, 400 do
         write("b z c9 s2", i, ("A"):rep(i * 10), "", ("B"):rep(i * 10))
         write("c3000", tostring(i))
     end
@@ -205,6 +316,37 @@ test("a finalizer that uses the writer loses no part", function()
     collectgarbage("setstepmul", multiplier)
     local _, _, length = writer:state()
     assert(runs > 100 and length == written, ("%d runs, %d written, %d counted"):format(runs, written, length))
+end)
+
+test("pack_tray: a finalizer may change the tables", function()
+    local lists, runs, over, kinds = {}, 0, false, 0
+    local function arm()
+        setmetatable({}, { __gc = function()
+            if over then return end
+            runs = runs + 1
+            for i = 1, #lists do lists[i][1] = ("B"):rep(runs % 7 * 300) end
+            lists[#lists + 1] = runs % 3 == 0 and { "C" } or nil
+            if runs % 5 == 0 then lists[2] = runs end
+            arm()
+        end })
+    end
+    local pause, multiplier = collectgarbage("setpause", 0), collectgarbage("setstepmul", 1000)
+    collectgarbage() -- so that the pause counts from now on
+    arm()
+    for i = 1, 500 do
+        lists = { { ("A"):rep(i) }, { "" }, { ("A"):rep(900) } }
+        local ok, tray = pcall(pack_tray, i % 2 == 0 and "z" or "z c2000 x", lists)
+        if ok then
+            assert(tray:find("^[ABC\0]*$"))
+        else
+            kinds = kinds + 1
+            assert(type(tray) == "table" and tray.number == 11 or tostring(tray):find("record 2: table expected"), tray)
+        end
+    end
+    over = true
+    collectgarbage("setpause", pause)
+    collectgarbage("setstepmul", multiplier)
+    assert(runs > 100 and kinds > 0, ("%d runs, %d refusals"):format(runs, kinds))
 end)
 
 test("what is taken for a text or a number", function()
@@ -279,6 +421,27 @@ test("memory goes by what is needed", function()
     collectgarbage("restart")
 end)
 
+test("pack_tray: memory goes by what is needed, and a lack of it is Lua's error", function()
+    local lists, expected = {}, {}
+    for i = 1, 100 do
+        lists[i] = { i, ("A"):rep(i) }
+        expected[i] = pack("b c300 c200", i, ("A"):rep(i), "") -- longer than the lists
+        lists[i][3] = ""
+    end
+    expected = table.concat(expected)
+    same({ true, "\1\2" }, limited(1000, pack_tray, "b", { { 1 }, { 2 } }))
+    same({ false, "not enough memory" }, limited(2000, pack_tray, "c1500", { { "A" }, { "B" } }))
+    local tries, ok, tray = -1, nil, nil
+    repeat
+        tries = tries + 1
+        testing.blocks(tries, math.maxinteger)
+        ok, tray = pcall(pack_tray, "b c300 c200", lists)
+        testing.blocks()
+        assert(ok or tray == "not enough memory", tray)
+    until ok
+    assert(tray == expected and tries >= 3, tries) -- the run, the tray by two sums, the bytes as a string
+end)
+
 test("a lack of memory leaves the writer as it was", function()
     local long = ("A"):rep(2000)
     for _, format in ipairs { "b c9 z", "b c9000 z" } do
@@ -331,7 +494,8 @@ test("the float environment has no influence, and stays", function()
     local writer = digribbon.writer()
     for _, other in ipairs(others) do
         for _, case in ipairs(expected) do
-            for _, call in ipairs { pack, function(...) return (writer:pack(...)) end } do
+            local function tray(format, value) return pack_tray(format, { { value } }) end
+            for _, call in ipairs { pack, tray, function(...) return (writer:pack(...)) end } do
                 testing.environment(DEFAULT + other)
                 local ok, given = pcall(call, case[1], case[2])
                 local after = testing.environment(DEFAULT)
@@ -349,10 +513,61 @@ test("refusals keep no memory", function()
     for _ = 1, 200 do
         refused(13, pack, "z i1", text, 200)
         refused(17, unpack, ("z"):rep(100) .. "b", ("A\0"):rep(100))
+        refused(11, pack_tray, "z", { { text:sub(4) }, {} })
+        failed("more than 65,535 bytes", pack_tray, "zz", { { text:sub(4) }, { text:sub(4), "" } })
     end
     collectgarbage()
     collectgarbage()
     assert(collectgarbage("count") < before + 100)
+end)
+
+test("pack_tray: the records are those of single calls", function()
+    local items = { "b", "h", "i1", "I3", "j", "T", "d", "c5", "z", "s1", "x", "Xi4", "<", ">", "!4", " " }
+    local values = { 0, 100, -1, 70000, 2.0, -0.5, "", "zone", "A\0B", ("t"):rep(300), false, math.mininteger }
+    math.randomseed(7)
+    local accepted, refusals = 0, 0
+    for _ = 1, 3000 do
+        local format, lists, expected = {}, {}, {}
+        for i = 1, math.random(0, 5) do format[i] = items[math.random(#items)] end
+        for i = 1, math.random(0, 6) do
+            lists[i] = {}
+            for _, item in ipairs(format) do
+                local is_text, takes = item:find("^[czs]"), not item:find("^[xX<>! ]")
+                local any = math.random(12) == 1
+                if any or takes then
+                    table.insert(lists[i], any and values[math.random(#values)] or is_text and "zone" or takes and 100)
+                end
+            end
+        end
+        local first, place
+        for i, list in ipairs(lists) do
+            local ok, record = pcall(pack, table.concat(format), table.unpack(list))
+            if not ok then
+                first, place = record, i
+                break
+            end
+            expected[i] = record
+        end
+        local ok, tray = pcall(pack_tray, table.concat(format), lists)
+        if first then
+            refusals = refusals + 1
+            same({ false, first.number, place }, ok, tray.number, tray.record)
+            assert(first.value == tray.value)
+        else
+            accepted = accepted + 1
+            same({ true, table.concat(expected) }, ok, tray)
+        end
+    end
+    assert(accepted > 500 and refusals > 500, accepted)
+end)
+
+test("the version is that of the header and of the crate", function()
+    local function found(file, pattern)
+        local text <close> = assert(io.open(file))
+        return text:read("a"):match(pattern)
+    end
+    same({ found("../include/digribbon.h", '#define DIGRIBBON_VERSION "([^"]*)"') }, digribbon._VERSION)
+    same({ found("../rust/Cargo.toml", '\nversion = "([^"]*)"') }, digribbon._VERSION)
 end)
 
 ---- profiles
@@ -453,6 +668,14 @@ test("profile: read what lies on a card, record by record", function()
     end)
     assert(refusal.cause == "card data" and position == 11)
     same({ 10, 0, 20, 1 }, products[1][1], products[1][2], products[2][1], products[2][2])
+end)
+
+test("profile: a tray of passes", function()
+    local passes = { { 1, 10, 0 }, { 2, 20, 1 }, { 3, 70000, 1 } }
+    local ok, refusal = pcall(pack_tray, ">I2I2B", passes)
+    assert(not ok and refusal.number == 13 and refusal.record == 3 and refusal.value == 2)
+    table.remove(passes, refusal.record)
+    same({ "\0\1\0\10\0\0\2\0\20\1" }, pack_tray(">I2I2B", passes))
 end)
 
 test("profile: in a coroutine", function()

@@ -23,6 +23,16 @@ unsafe extern "C" {
         record_len: usize,
         answer: &mut [u64; 6],
     ) -> u64;
+    fn digribbon_pack_tray(
+        format: *const u8,
+        format_len: usize,
+        run: *const u8,
+        run_len: usize,
+        tray: *mut MaybeUninit<u8>,
+        tray_len: usize,
+        place: &mut [u64; 1],
+        answer: &mut [u64; 1],
+    ) -> u64;
     fn digribbon_unpack(
         format: *const u8,
         format_len: usize,
@@ -37,7 +47,7 @@ unsafe extern "C" {
 }
 
 // SAFETY, for every call below: a slice is lent as its pointer, which is never null, and its length, which is at most
-// 2^63-1; a result buffer and an answer are borrowed by nobody else, so nothing overlaps them.
+// 2^63-1; a result buffer, an answer and a place are borrowed by nobody else, so nothing overlaps them.
 
 pub(crate) fn packsize(format: &[u8]) -> Result<u64, Refusal> {
     answered(|answer| unsafe { digribbon_packsize(format.as_ptr(), format.len(), answer) }).map(|[size]| size)
@@ -83,6 +93,24 @@ pub(crate) fn pack_continued(
         used: used as usize,
         items: items as usize,
     })
+}
+
+/// The tray's length; or the refusal, and which record it is about, from 1, or 0 for none.
+pub(crate) fn pack_tray(format: &[u8], run: &[u8], tray: &mut Room) -> Result<usize, (Refusal, usize)> {
+    let mut place = [0];
+    let answer = answered(|answer| unsafe {
+        digribbon_pack_tray(
+            format.as_ptr(),
+            format.len(),
+            run.as_ptr(),
+            run.len(),
+            tray.as_mut_ptr(),
+            tray.len(),
+            &mut place,
+            answer,
+        )
+    });
+    answer.map(|[length]| length as usize).map_err(|refusal| (refusal, place[0] as usize))
 }
 
 /// The length of the list, and the next position, which an i64 holds: no memory has 2^63-1 bytes of data.

@@ -1,4 +1,4 @@
-//! Refusals: number, sentence, cause, and the value that one is about.
+//! Refusals: number, sentence, cause, and the value and the record that one is about.
 
 use std::num::NonZero;
 use std::{error, fmt};
@@ -91,6 +91,7 @@ refusals! {
     20 TextAbove65535 CardData "A text is longer than 65,535 bytes."
     21 Malformed Host "The value list is malformed, the data or the state's length is above 2^63-1, or the state's limit is no power of two of 1 to 16."
     22 ResultTooLong Host "The result is longer than the lent buffer."
+    23 DamagedRun Host "The lengths of a run's lists don't end at its last byte."
 }
 
 impl Refusal {
@@ -108,7 +109,7 @@ impl Refusal {
     }
 }
 
-/// A refused call: why, and which value it is about. A refusal leaves everything as it was.
+/// A refused call: why, and which value it is about, in a tray of which record. A refusal leaves everything as it was.
 ///
 /// ```
 /// use digribbon::{Cause, Refusal, ValueList};
@@ -130,12 +131,18 @@ impl Refusal {
 pub struct Error {
     refusal: Refusal,
     value: Option<NonZero<usize>>,
+    record: Option<NonZero<usize>>,
 }
 
 impl Error {
     /// A refusal that is about the value at a position, from 1.
     pub(crate) fn at_value(refusal: Refusal, position: usize) -> Error {
-        Error { refusal, value: NonZero::new(position) }
+        Error { value: NonZero::new(position), ..Error::from(refusal) }
+    }
+
+    /// The same about a record of a tray, from 1.
+    pub(crate) fn in_record(self, position: usize) -> Error {
+        Error { record: NonZero::new(position), ..self }
     }
 
     /// Why.
@@ -168,15 +175,22 @@ impl Error {
     pub fn value_position(self) -> Option<usize> {
         self.value.map(NonZero::get)
     }
+
+    /// Which record of a tray the refusal is about, from 1. [`pack_tray`](crate::pack_tray) says it of every refusal but
+    /// [`ResultTooLong`](Refusal::ResultTooLong), which is about the whole tray.
+    #[must_use]
+    pub fn record_position(self) -> Option<usize> {
+        self.record.map(NonZero::get)
+    }
 }
 
 impl From<Refusal> for Error {
     fn from(refusal: Refusal) -> Error {
-        Error { refusal, value: None }
+        Error { refusal, value: None, record: None }
     }
 }
 
-/// Whether the call was refused for this reason, whichever value it is about.
+/// Whether the call was refused for this reason, whichever value and record it is about.
 impl PartialEq<Refusal> for Error {
     fn eq(&self, refusal: &Refusal) -> bool {
         self.refusal == *refusal
@@ -186,8 +200,11 @@ impl PartialEq<Refusal> for Error {
 impl fmt::Display for Error {
     fn fmt(&self, f: &mut fmt::Formatter<'_>) -> fmt::Result {
         write!(f, "refusal {}", self.number())?;
-        if let Some(value) = self.value {
-            write!(f, " at value {value}")?;
+        match (self.value, self.record) {
+            (Some(value), Some(record)) => write!(f, " at value {value} of record {record}")?,
+            (Some(value), None) => write!(f, " at value {value}")?,
+            (None, Some(record)) => write!(f, " at record {record}")?,
+            (None, None) => (),
         }
         write!(f, ": {}", self.sentence())
     }

@@ -18,16 +18,17 @@
 //! # Refusals
 //!
 //! A call that is refused changes nothing and says why by an [`Error`]: a [`Refusal`] with its number, a sentence and
-//! who causes it, as in `docs/REFUSALS.md`, and, in writing, which value it is about.
+//! who causes it, as in `docs/REFUSALS.md`, and, in writing, which value it is about. A tray has a [`TrayError`], which
+//! also says which record it is about.
 //!
 //! # Memory
 //!
-//! [`pack`], [`unpack`] and [`Writer::write`] give results that take as much memory as they need, and use more while
-//! they run. Where the memory for a result can't be had, they are refused with [`Refusal::ResultTooLong`] and the
-//! process goes on. (A [`ValueList`] that is built grows as a `Vec` does, which ends the process there.) A short format
-//! can ask for a long record: `c2000000000` asks for two billion bytes. Where formats are not trusted, use
-//! [`pack_into`] or [`Writer::write_into`] with a buffer as long as the longest record that you accept. They allocate
-//! nothing. [`packsize`] says the length of a record beforehand, but not where the format has `z` or `s`, whose length
+//! [`pack`], [`pack_tray`], [`unpack`] and [`Writer::write`] give results that take as much memory as they need, and use
+//! more while they run. Where the memory for a result can't be had, they are refused with [`Refusal::ResultTooLong`] and
+//! the process goes on. (A [`ValueList`] that is built grows as a `Vec` does, which ends the process there.) A short
+//! format can ask for a long record: `c2000000000` asks for two billion bytes. Where formats are not trusted, use
+//! [`pack_into`], [`pack_tray_into`] or [`Writer::write_into`] with a buffer as long as the longest record or tray that
+//! you accept. They allocate nothing, but for a copy of a tray's lists. [`packsize`] says the length of a record beforehand, but not where the format has `z` or `s`, whose length
 //! depends on the values: `c2000000000z` is [`Refusal::NoFixedSize`].
 //!
 //! # Threads and the float environment
@@ -44,14 +45,17 @@ mod calls;
 mod error;
 mod reading;
 mod room;
+mod tray;
 mod values;
 mod writer;
 mod writing;
 
 pub use error::{Cause, Error, Refusal};
+pub use tray::TrayError;
 pub use values::{Iter, TextTooLong, Value, ValueList, Values};
 pub use writer::{Order, Part, State, Writer};
 
+use tray::Tray;
 use writing::Writing;
 
 /// How long a record of the format is, at most 2^63-1.
@@ -115,6 +119,62 @@ pub fn pack(format: impl AsRef<[u8]>, values: &Values) -> Result<Vec<u8>, Error>
 pub fn pack_into(format: impl AsRef<[u8]>, values: &Values, record: &mut [u8]) -> Result<usize, Error> {
     let answer = Writing::new(State::default(), format.as_ref(), values).into_slice(record)?;
     Ok(answer.written)
+}
+
+/// The records of many value lists, back to back: each is what [`pack`] gives for its list alone. Where there is no
+/// list, the tray has no bytes, whatever the format is.
+///
+/// # Errors
+///
+/// Those of [`pack`], with the first record that is refused: each record is checked, in turn, before the memory for the
+/// tray. Before all of them comes [`TrayError::ListTooLong`], for the first list that is longer than 65,535 bytes; of
+/// such a list only the first values count, as many as the format has bytes, since it takes no more.
+/// [`ResultTooLong`](Refusal::ResultTooLong) comes where no memory for the tray or for a copy of its lists can be had.
+/// It names no record.
+///
+/// ```
+/// use digribbon::{Refusal, ValueList};
+///
+/// let issues = [[1, 10, 0], [2, 20, 1]].map(ValueList::from_values);
+/// let issues = issues.into_iter().collect::<Result<Vec<_>, _>>()?;
+/// let tray = digribbon::pack_tray(">I2I2B", &issues)?;
+/// assert_eq!(tray, [0, 1, 0, 10, 0, 0, 2, 0, 20, 1]);
+///
+/// let error = digribbon::pack_tray("i1 i1 z", &issues).unwrap_err();
+/// assert_eq!((error.refusal(), error.record_position()), (Some(Refusal::WrongKind), Some(1)));
+/// # Ok::<(), Box<dyn std::error::Error>>(())
+/// ```
+pub fn pack_tray(
+    format: impl AsRef<[u8]>,
+    lists: impl IntoIterator<Item: AsRef<Values>>,
+) -> Result<Vec<u8>, TrayError> {
+    Ok(Tray::new(format.as_ref(), lists)?.into_vec()?)
+}
+
+/// [`pack_tray`] into a buffer: the tray's length. What lies behind the tray is left as it was.
+///
+/// # Errors
+///
+/// Those of [`pack_tray`]; [`ResultTooLong`](Refusal::ResultTooLong) where the buffer is shorter than the tray. They
+/// change no byte of the buffer.
+///
+/// ```
+/// use digribbon::{Refusal, ValueList};
+///
+/// let lists = [ValueList::from_values([258])?, ValueList::from_values([259])?];
+/// let mut chip = [0xEE; 5];
+/// assert_eq!(digribbon::pack_tray_into(">I2", &lists, &mut chip), Ok(4));
+/// assert_eq!(chip, [1, 2, 1, 3, 0xEE]);
+/// assert_eq!(digribbon::pack_tray_into("<I3", &lists, &mut chip).unwrap_err(), Refusal::ResultTooLong);
+/// assert_eq!(chip, [1, 2, 1, 3, 0xEE]);
+/// # Ok::<(), digribbon::TextTooLong>(())
+/// ```
+pub fn pack_tray_into(
+    format: impl AsRef<[u8]>,
+    lists: impl IntoIterator<Item: AsRef<Values>>,
+    tray: &mut [u8],
+) -> Result<usize, TrayError> {
+    Ok(Tray::new(format.as_ref(), lists)?.into_slice(tray)?)
 }
 
 /// The values that the format reads from the data, and the position after the last byte read.

@@ -184,6 +184,12 @@ impl Values {
     }
 }
 
+impl AsRef<Values> for Values {
+    fn as_ref(&self) -> &Values {
+        self
+    }
+}
+
 impl AsRef<[u8]> for Values {
     fn as_ref(&self) -> &[u8] {
         self.as_bytes()

@@ -34,7 +34,7 @@ impl<'a> Writing<'a> {
     }
 
     /// A refusal of this writing, with the value that it is about.
-    fn error(self, refusal: Refusal) -> Error {
+    pub(crate) fn error(self, refusal: Refusal) -> Error {
         match refusal {
             Refusal::NoValueLeft => Error::at_value(refusal, Values::trusted(self.list).len() + 1),
             Refusal::WrongKind | Refusal::OutOfRange | Refusal::ZeroInText | Refusal::TextDoesNotFit => {

@@ -1,7 +1,8 @@
 //! What Rust programs expect of the crate's types and functions.
 
 use digribbon::{
-    Cause, Error, Iter, Order, Part, Refusal, State, TextTooLong, Value, ValueList, Values, Writer, pack, packsize,
+    Cause, Error, Iter, Order, Part, Refusal, State, TextTooLong, TrayError, Value, ValueList, Values, Writer, pack,
+    packsize,
 };
 use std::borrow::{Borrow, Cow};
 use std::collections::HashMap;
@@ -47,6 +48,7 @@ fn lists_are_lent_and_owned() {
     assert_eq!((lent.to_owned(), ValueList::from(lent)), (list.clone(), list.clone()));
     assert_eq!((AsRef::<[u8]>::as_ref(lent), AsRef::<[u8]>::as_ref(&list)), (lent.as_bytes(), lent.as_bytes()));
     assert_eq!((Borrow::<Values>::borrow(&list), AsRef::<Values>::as_ref(&list)), (lent, lent));
+    assert_eq!(AsRef::<Values>::as_ref(lent), lent);
 
     let mut cow = Cow::Borrowed(lent);
     assert_eq!(cow.len(), 3);
@@ -95,10 +97,11 @@ fn types_have_the_usual_traits() {
     fn has_equality<T: Eq + Hash>() {}
     fn is_error<T: std::error::Error + Copy + Eq + 'static>() {}
     has::<(Value, ValueList, Iter, Writer, State, Order, Part)>();
-    has::<(Error, Refusal, Cause, TextTooLong)>();
-    has_equality::<(ValueList, State, Order, Error, Refusal, Cause, TextTooLong)>();
+    has::<(Error, TrayError, Refusal, Cause, TextTooLong)>();
+    has_equality::<(ValueList, State, Order, Error, TrayError, Refusal, Cause, TextTooLong)>();
     has_equality::<&Values>();
     is_error::<Error>();
+    is_error::<TrayError>();
     is_error::<TextTooLong>();
 }
 

@@ -1,7 +1,8 @@
 //! How much memory the calls take, keep and can do without, by an allocator that counts and that refuses.
 
 use digribbon::{
-    Error, Refusal, ValueList, Values, Writer, list_bound, pack, pack_into, packsize, unpack, unpack_into,
+    Refusal, ValueList, Values, Writer, list_bound, pack, pack_into, pack_tray, pack_tray_into, packsize, unpack,
+    unpack_into,
 };
 use std::alloc::{GlobalAlloc, Layout, System};
 use std::cell::Cell;
@@ -131,7 +132,7 @@ fn readings() -> Vec<(String, Vec<u8>, usize)> {
     readings
 }
 
-fn is_too_long<T>(result: Result<T, Error>) -> bool {
+fn is_too_long<T, E: PartialEq<Refusal>>(result: Result<T, E>) -> bool {
     result.is_err_and(|error| error == Refusal::ResultTooLong)
 }
 
@@ -195,6 +196,43 @@ fn results_need_no_more_memory_than_their_own() {
         let list = with_memory_of(length, || unpack(&format, &data, 1));
         assert_eq!(list.expect("a list").0.as_bytes().len(), length);
         assert!(length == 0 || with_memory_of(length - 1, || is_too_long(unpack(&format, &data, 1))));
+    }
+}
+
+/// Formats, lists for them, and how long the tray is.
+fn trays() -> [(&'static str, Vec<ValueList>, usize); 4] {
+    [
+        ("b", vec![integers(1); 3], 3),
+        ("s2", vec![texts(3, 1); 1000], 5000),
+        ("c5000", vec![texts(3, 1); 300], 1_500_000),
+        ("<!8 b j", vec![integers(2); 500], 8000),
+    ]
+}
+
+#[test]
+fn trays_hold_what_they_need() {
+    for (format, lists, length) in trays() {
+        let (tray, held) = held_by(|| pack_tray(format, &lists).expect("a tray"));
+        assert_eq!((tray.len(), held), (length, length), "{format}");
+        let (number, held) = held_by(|| pack_tray("!3", &lists).expect_err("3 is no limit").refusal());
+        assert_eq!((number, held), (Some(Refusal::LimitNoPower), 0), "{format}");
+    }
+}
+
+/// While a tray is written, there is a copy of its lists, which grows as vectors do.
+#[test]
+fn trays_need_memory_for_their_lists_too() {
+    for (format, lists, length) in trays() {
+        let copy = lists.iter().map(|list| 2 + list.as_bytes().len()).sum::<usize>();
+        let tray = with_memory_of(3 * copy + length, || pack_tray(format, &lists));
+        assert_eq!(tray.map(|tray| tray.len()), Ok(length), "{format}");
+        for memory in [0, 1, copy - 1, copy + length - 1] {
+            assert!(with_memory_of(memory, || is_too_long(pack_tray(format, &lists))), "{format} {memory}");
+        }
+        let mut chip = vec![0; length];
+        assert_eq!(with_memory_of(3 * copy, || pack_tray_into(format, &lists, &mut chip)), Ok(length), "{format}");
+        let (nothing, asked) = asked_by(|| pack_tray_into(format, &lists[..0], &mut chip));
+        assert_eq!((nothing, asked), (Ok(0), 0), "{format}");
     }
 }
 
