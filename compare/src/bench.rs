@@ -6,6 +6,7 @@ mod parts;
 mod plot;
 mod table;
 mod time;
+mod trays;
 mod workloads;
 
 use crate::lua::Lua;
@@ -14,7 +15,10 @@ use crate::value::Bytes;
 use std::fs;
 use std::path::Path;
 use std::process::ExitCode;
+use trays::Trays;
 use workloads::{Workload, growing, with_goals};
+
+use count::TrayCounts;
 
 pub use count::counted;
 
@@ -42,12 +46,30 @@ struct Row {
     nanoseconds: Costs,
 }
 
+/// What a tray costs, and what it costs to write its records by single calls.
+struct TrayCosts {
+    tray: f64,
+    each: f64,
+    original: f64,
+    lua: f64,
+}
+
+struct TrayRow {
+    trays: Trays,
+    instructions: TrayCosts,
+    nanoseconds: TrayCosts,
+}
+
 struct Report {
     /// The workloads with goals, then those that grow.
     goals: Vec<Row>,
     growth: Vec<Row>,
     /// Instructions for each number of parts, by each way to write them, and by the Lua module.
     parts: Vec<([f64; 3], f64)>,
+    /// Trays that are held against the others.
+    trays: Vec<TrayRow>,
+    /// Instructions of all trays, and of as many single calls.
+    growing_trays: Vec<(Trays, [f64; 2])>,
     stand_ins: Vec<(&'static str, f64)>,
     version: String,
 }
@@ -98,6 +120,9 @@ fn report() -> Result<Report, String> {
     if let Some(parts) = parts::all().iter().find(|parts| !parts.agrees()) {
         return Err(format!("{} parts give another record than the whole", parts.count));
     }
+    if let Some(trays) = trays::all().iter().find(|trays| !trays.agrees()) {
+        return Err(format!("a {} gives another record than the original", trays.title()));
+    }
     let version = Lua::version()?;
     let scratch = std::env::temp_dir().join(format!("digribbon-bench-{}", std::process::id()));
     fs::create_dir_all(&scratch).map_err(|why| format!("no folder for the counts can be made: {why}"))?;
@@ -122,7 +147,25 @@ fn measured(goals: Vec<Workload>, growth: Vec<Workload>, version: String, scratc
     let growth = growth.into_iter().map(&mut row).collect::<Result<_, _>>()?;
     let in_lua = parts::all().iter().map(|parts| lua::count_parts(parts, scratch)).collect::<Result<Vec<_>, _>>()?;
     let parts = counts.parts.into_iter().zip(in_lua).collect();
-    Ok(Report { goals, growth, parts, stand_ins: counts.stand_ins, version })
+    let counted = || trays::all().into_iter().zip(&counts.trays);
+    let rows = counted().filter(|(trays, _)| trays.has_goal()).map(|(trays, counts)| tray_row(trays, counts, scratch));
+    let trays = rows.collect::<Result<_, _>>()?;
+    let growing_trays = counted().map(|(trays, counts)| (trays, [counts.tray, counts.each])).collect();
+    Ok(Report { goals, growth, parts, trays, growing_trays, stand_ins: counts.stand_ins, version })
+}
+
+fn tray_row(trays: Trays, counts: &TrayCounts, scratch: &Path) -> Result<TrayRow, String> {
+    eprintln!("bench: {}", trays.title());
+    let (single, count) = (trays.single(), trays.count as f64);
+    let instructions = TrayCosts {
+        tray: counts.tray,
+        each: counts.each,
+        original: counts.original.expect("it is counted beside a goal"),
+        lua: lua::count(&single, scratch)? * count,
+    };
+    let [tray, each, original] = time::times_of_tray(&trays);
+    let nanoseconds = TrayCosts { tray, each, original, lua: lua::time(&single, scratch)? * count };
+    Ok(TrayRow { trays, instructions, nanoseconds })
 }
 
 fn publish(report: &Report, folder: Option<&Path>) -> Result<(), String> {

@@ -5,6 +5,15 @@ use crate::lua::{Answer, Given, Lua, Module};
 use crate::lua_domain::Asked;
 use crate::original::{Original, Outcome};
 use crate::report::{Case, Check, Named, Verdict};
+use std::slice;
+
+/// A case that can be shown to the original, and with others to Lua.
+pub trait Beside: Case {
+    fn by_original(&self, original: &mut Original, cap: u64) -> Check;
+
+    /// An error where Lua ends.
+    fn by_lua(batch: &[Self], lua: &mut Lua, cap: u64) -> Result<Vec<Check>, String>;
+}
 
 /// A call that each of them can be asked about. `cap` is the longest c that may be filled.
 pub trait Compared: Case {
@@ -38,7 +47,7 @@ pub fn beside_original<C: Compared>(case: &C, original: &mut Original, cap: u64)
 }
 
 /// By Lua's answer to what it was asked.
-pub fn beside_lua<C: Compared>(case: &C, asked: &Asked, answer: &Answer<C::Given>, cap: u64) -> Check {
+fn beside_lua<C: Compared>(case: &C, asked: &Asked, answer: &Answer<C::Given>, cap: u64) -> Check {
     if let Some(Err(why)) = answer.module.as_ref().map(|module| case.against_module(module, cap)) {
         return Check::Differs(why);
     }
@@ -53,11 +62,24 @@ pub fn beside_lua<C: Compared>(case: &C, asked: &Asked, answer: &Answer<C::Given
     compared.unwrap_or_else(Check::Differs)
 }
 
-/// The same for one case. A Lua that ends at it is a difference.
-pub fn ask_lua<C: Compared>(case: &C, lua: &mut Lua, cap: u64) -> Check {
-    let asked = case.asked(cap);
-    match lua.ask(&[&asked.question]) {
-        Ok(answers) => beside_lua(case, &asked, &answers[0], cap),
+impl<C: Compared> Beside for C {
+    fn by_original(&self, original: &mut Original, cap: u64) -> Check {
+        beside_original(self, original, cap)
+    }
+
+    fn by_lua(batch: &[C], lua: &mut Lua, cap: u64) -> Result<Vec<Check>, String> {
+        let asked: Vec<Asked> = batch.iter().map(|case| case.asked(cap)).collect();
+        let questions: Vec<_> = asked.iter().map(|asked| &asked.question).collect();
+        let answers = lua.ask(&questions)?;
+        let each = batch.iter().zip(&asked).zip(&answers);
+        Ok(each.map(|((case, asked), answer)| beside_lua(case, asked, answer, cap)).collect())
+    }
+}
+
+/// One case by Lua. A Lua that ends at it is a difference.
+pub fn ask_lua<C: Beside>(case: &C, lua: &mut Lua, cap: u64) -> Check {
+    match C::by_lua(slice::from_ref(case), lua, cap) {
+        Ok(checked) => checked.into_iter().next().expect("each case is checked"),
         Err(why) => Check::Differs(lua.restart().err().unwrap_or(why)),
     }
 }

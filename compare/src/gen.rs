@@ -477,6 +477,21 @@ pub fn data(random: &mut Random, length: usize) -> Vec<u8> {
     }
 }
 
+/// All of up to `length` bytes over an alphabet.
+pub fn every_over(alphabet: Vec<u8>, length: u32) -> impl Iterator<Item = Vec<u8>> {
+    let letters = alphabet.len() as u64;
+    let numbers = (0..=length).flat_map(move |length| (0..letters.pow(length)).map(move |number| (length, number)));
+    numbers.map(move |(length, number)| {
+        let letter = |place: u32| alphabet[(number / letters.pow(place) % letters) as usize];
+        (0..length).map(letter).collect()
+    })
+}
+
+/// How many these are, by the alphabet's length.
+pub fn count_over(letters: usize, length: u32) -> u64 {
+    (0..=length).map(|length| (letters as u64).pow(length)).sum()
+}
+
 /// More room than any record of this format and these values needs, where no c is above the cap.
 pub fn room(format: &[u8], values: &[Value], cap: u64) -> usize {
     let texts: usize = values.iter().map(Value::field_length).sum();

@@ -113,6 +113,10 @@ impl Lua {
 
     /// The answers, in the questions' order. An error where Lua ends.
     pub fn ask<T: Given>(&mut self, questions: &[&Question]) -> Result<Vec<Answer<T>>, String> {
+        if questions.is_empty() {
+            // Lua would wait for the first byte of an empty batch
+            return Ok(vec![]);
+        }
         let mut batch = Vec::new();
         questions.iter().for_each(|question| put_question(&mut batch, question, self.module));
         let answers = self.exchange(&batch).map_err(|why| format!("{LUA} has ended: {why}"))?;

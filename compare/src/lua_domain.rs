@@ -26,6 +26,7 @@ pub enum Clause {
     LongNumerals,
     LongTexts,
     Malformed,
+    DamagedRun,
 }
 
 impl Named for Clause {
@@ -44,6 +45,7 @@ impl Named for Clause {
         (Clause::LongNumerals, "very long numerals: above 2147483639 Lua takes the last digits for options"),
         (Clause::LongTexts, "texts above 65,535: 20 refuses them"),
         (Clause::Malformed, "nothing that 21 refuses: a malformed list has no values to give to Lua"),
+        (Clause::DamagedRun, "nothing that 23 refuses: a damaged run has no lists"),
     ];
 
     fn place(self) -> usize {

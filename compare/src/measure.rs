@@ -44,26 +44,16 @@ pub fn run(seed: u64, cases: u64, length: u32) -> ExitCode {
 
 /// Every format of up to two bytes, then every one of up to `length` bytes over the alphabet.
 pub fn every_format(length: u32) -> impl Iterator<Item = Measured> {
-    every_format_over(every_byte(), 2).chain(every_format_over(ALPHABET.to_vec(), length))
+    r#gen::every_over(every_byte(), 2).chain(r#gen::every_over(ALPHABET.to_vec(), length)).map(Measured)
 }
 
 /// How many these are.
 pub fn format_count(length: u32) -> u64 {
-    let up_to = |letters: u64, length: u32| (0..=length).map(|length| letters.pow(length)).sum::<u64>();
-    up_to(256, 2) + up_to(ALPHABET.len() as u64, length)
+    r#gen::count_over(256, 2) + r#gen::count_over(ALPHABET.len(), length)
 }
 
 fn every_byte() -> Vec<u8> {
     (0..=255).collect()
-}
-
-fn every_format_over(alphabet: Vec<u8>, length: u32) -> impl Iterator<Item = Measured> {
-    let letters = alphabet.len() as u64;
-    let numbers = (0..=length).flat_map(move |length| (0..letters.pow(length)).map(move |number| (length, number)));
-    numbers.map(move |(length, number)| {
-        let letter = |place: u32| alphabet[(number / letters.pow(place) % letters) as usize];
-        Measured((0..length).map(letter).collect())
-    })
 }
 
 /// A random format; every second one mostly means the same in Lua.

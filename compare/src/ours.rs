@@ -27,6 +27,16 @@ unsafe extern "C" {
         record_length: usize,
         answer: *mut u64,
     ) -> u64;
+    fn digribbon_pack_tray(
+        format: *const u8,
+        format_length: usize,
+        run: *const u8,
+        run_length: usize,
+        tray: *mut u8,
+        tray_length: usize,
+        place: *mut u64,
+        answer: *mut u64,
+    ) -> u64;
     fn digribbon_unpack(
         format: *const u8,
         format_length: usize,
@@ -122,6 +132,24 @@ pub fn pack_continued(state: State, format: &[u8], list: &[u8], record: &mut [u8
         used,
         items,
     })
+}
+
+/// The tray's length, and the place; a place that the call doesn't set is the mark.
+pub fn pack_tray(format: &[u8], run: &[u8], tray: &mut [u8]) -> (Result<u64, u64>, u64) {
+    let mut place = MARK;
+    let answer = answered::<1>(|answer| unsafe {
+        digribbon_pack_tray(
+            format.as_ptr(),
+            format.len(),
+            run.as_ptr(),
+            run.len(),
+            tray.as_mut_ptr(),
+            tray.len(),
+            &mut place,
+            answer,
+        )
+    });
+    (answer.map(|[length]| length), place)
 }
 
 /// The list's length, and the next position.

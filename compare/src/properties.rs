@@ -4,7 +4,7 @@ use crate::r#gen::{self, Random, Use};
 use crate::items::{Item, Numeral, Settings, is_blank, items};
 use crate::original::as_argument;
 use crate::ours::{self, Continued, START, State};
-use crate::report::{Case, Check, Tally, lend, untouched};
+use crate::report::{Case, Check, Held, Tally, hold, lend, same_after, untouched};
 use crate::value::{Bytes, LONGEST_TEXT, Value, Values, decode, encode, skip};
 use crate::write::Written;
 
@@ -73,12 +73,6 @@ pub fn run(seed: u64, cases: u64) -> Tally {
 
 /// Formats here have no c above this that is accepted.
 const CAP: u64 = 100_000;
-
-type Held = Result<(), String>;
-
-fn hold(condition: bool, why: impl FnOnce() -> String) -> Held {
-    if condition { Ok(()) } else { Err(why()) }
-}
 
 fn check(case: &Property, counts: &mut Counts) -> Check {
     let mut random = Random::new(case.draw);
@@ -163,11 +157,6 @@ fn read(format: &[u8], data: &[u8], start: i64, room: usize) -> Result<Result<(V
             Ok(Err(number))
         }
     }
-}
-
-/// The compiler may take lent bytes for unchanged, so they are read anew.
-fn same_after(lent: &[u8], before: &[u8]) -> Held {
-    hold(std::hint::black_box(lent) == before, || "a byte that was only lent for reading changed".to_string())
 }
 
 // ---- writing

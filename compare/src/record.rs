@@ -1,14 +1,16 @@
 //! The original's answers to a fixed list of calls, as the text that our program `conformance` reads: its src/recorded.rt
 //! begins with their form, its src/reader.rt with that of bytes.
 //!
-//! A replay compares refusals only as refusals. No case has a NaN from reading f, so all else is the same to the bit.
+//! A replay compares refusals only as refusals, and those of trays by their place. No case has a NaN from reading f, so all else is the same to the bit.
 
 use crate::domain::{self, Verdict};
 use crate::r#gen::{self, Random, Use};
 use crate::items::items;
 use crate::original::{Original, Outcome};
 use crate::read::some_readings;
-use crate::value::{Value, encode};
+use crate::report::Named;
+use crate::tray::{self, Stop, Tray, as_run};
+use crate::value::{Value, decode, encode};
 use crate::write::Written;
 use std::collections::{BTreeSet, HashSet};
 use std::fs;
@@ -25,6 +27,7 @@ pub fn run(path: &str) -> ExitCode {
     measured(&mut recording);
     written(&mut recording);
     read(&mut recording);
+    trays(&mut recording);
     for (call, unmeasured) in [("m", "zs"), ("w", ""), ("r", "")] {
         let lacks =
             |option: &char| !recording.options.contains(&(call, *option as u8)) && !unmeasured.contains(*option);
@@ -38,6 +41,10 @@ pub fn run(path: &str) -> ExitCode {
     println!("{path}: {} cases, {} accepted", recording.lines.len(), recording.accepted);
     ExitCode::SUCCESS
 }
+
+/// The marks of an answer, and of a refusal.
+const ACCEPTED: &str = "=";
+const REFUSED: &str = "!";
 
 const OPTIONS: &str = "bBhHiIlLjJTfdnczsxX<>=! ";
 
@@ -59,19 +66,20 @@ impl Recording {
         self.text += &format!("# {name}\n");
     }
 
-    fn add(&mut self, call: &'static str, format: &[u8], arguments: &[String], answer: Option<Vec<String>>) {
+    /// The parts of the answer stand behind its mark, apart by /; a refused tray has its place as the second.
+    fn add(&mut self, call: &'static str, format: &[u8], arguments: &[String], mark: &str, answer: &[String]) {
         let text = text_of(format);
         let mut words = vec![call, &text];
         words.extend(arguments.iter().flat_map(|argument| ["/", argument]));
-        words.push(if answer.is_some() { "=" } else { "!" });
-        words.extend(answer.iter().flatten().enumerate().flat_map(|(i, part)| [if i > 0 { "/" } else { "" }, part]));
+        words.push(mark);
+        words.extend(answer.iter().enumerate().flat_map(|(i, part)| [if i > 0 { "/" } else { "" }, part]));
         words.retain(|word| !word.is_empty());
         let line = words.join(" ");
         if !self.lines.insert(line.clone()) {
             return;
         }
         self.text += &format!("{line}\n");
-        if answer.is_some() {
+        if mark == ACCEPTED {
             self.accepted += 1;
             self.options.extend(items(format).iter().map(|item| (call, item.option)));
         }
@@ -82,8 +90,8 @@ impl Recording {
             return;
         }
         match self.original.packsize(format) {
-            Outcome::Accepted(size) => self.add("m", format, &[], Some(vec![size.to_string()])),
-            Outcome::Refused => self.add("m", format, &[], None),
+            Outcome::Accepted(size) => self.add("m", format, &[], ACCEPTED, &[size.to_string()]),
+            Outcome::Refused => self.add("m", format, &[], REFUSED, &[]),
             Outcome::Panicked => {}
         }
     }
@@ -97,8 +105,8 @@ impl Recording {
         let arguments = [list_of(values)];
         match self.original.pack(format, values) {
             Outcome::Accepted(record) if record.len() > LONGEST => {}
-            Outcome::Accepted(record) => self.add("w", format, &arguments, Some(vec![bytes_of(&record)])),
-            Outcome::Refused => self.add("w", format, &arguments, None),
+            Outcome::Accepted(record) => self.add("w", format, &arguments, ACCEPTED, &[bytes_of(&record)]),
+            Outcome::Refused => self.add("w", format, &arguments, REFUSED, &[]),
             Outcome::Panicked => {}
         }
     }
@@ -114,11 +122,28 @@ impl Recording {
             Outcome::Accepted((values, _)) if single && values.iter().any(Value::is_nan) => {}
             Outcome::Accepted((values, _)) if encode(&values).len() > LONGEST => {}
             Outcome::Accepted((values, next)) => {
-                self.add("r", format, &arguments, Some(vec![list_of(&values), next.to_string()]));
+                self.add("r", format, &arguments, ACCEPTED, &[list_of(&values), next.to_string()]);
             }
-            Outcome::Refused => self.add("r", format, &arguments, None),
+            Outcome::Refused => self.add("r", format, &arguments, REFUSED, &[]),
             Outcome::Panicked => {}
         }
+    }
+
+    /// The records are the original's. A damaged run, and a malformed list in its turn, are refused without it.
+    fn tray(&mut self, format: &[u8], run: &[u8]) {
+        if format.len().max(run.len()) > LONGEST {
+            return;
+        }
+        let malformed = [domain::Clause::Refused21.place()];
+        let place = match tray::read_by_original(&mut self.original, format, run, LONGEST as u64) {
+            Tray::Written(tray) if tray.len() > LONGEST => return,
+            Tray::Written(tray) => return self.add("t", format, &[run_of(run)], ACCEPTED, &[bytes_of(&tray)]),
+            Tray::DamagedRun => 0,
+            Tray::Refused(Stop::Refused, place) => place,
+            Tray::Refused(Stop::Excluded(clauses), place) if clauses == malformed => place,
+            _ => return,
+        };
+        self.add("t", format, &[run_of(run)], REFUSED, &[String::new(), place.to_string()]);
     }
 }
 
@@ -157,6 +182,14 @@ fn list_of(values: &[Value]) -> String {
         _ => bytes_of(&encode(slice::from_ref(value))),
     });
     fields.collect::<Vec<_>>().join(" ")
+}
+
+/// A run: each list behind its length, a malformed one and a damaged run by their bytes.
+fn run_of(run: &[u8]) -> String {
+    let Some(lists) = tray::lists(run) else { return bytes_of(run) };
+    let fields = |list: &[u8]| decode(list).map_or_else(|| bytes_of(list), |values| list_of(&values));
+    let listed = |list: &[u8]| format!("{:04X} {}", list.len(), fields(list)).trim_end().to_string();
+    lists.into_iter().map(listed).collect::<Vec<_>>().join(" ")
 }
 
 // ---- formats that bring up each option, size, alignment, limit and refusal
@@ -577,5 +610,91 @@ fn read(recording: &mut Recording) {
         for case in some_readings(&mut random, &mut writer) {
             recording.read(&case.format, &case.data, case.start);
         }
+    }
+}
+
+// ---- trays
+
+/// A format, and the list of the record at a place.
+type Profile = (&'static str, fn(i64) -> Vec<Value>);
+
+/// In some, a record that started where the one before ended, or with its order or limit, would be another.
+const PROFILES: [Profile; 9] = [
+    ("x", |_| vec![]),
+    ("b", |place| vec![Value::Integer(place)]),
+    (">I2I2B", |place| vec![Value::Integer(500 + place), Value::Integer(place), Value::Integer(1)]),
+    ("<!4 b i h I4 s1", |place| {
+        let integers = [1, -2 - place, 300, 70_000].map(Value::Integer);
+        [&integers[..], &[text(&b"holder"[..place as usize])]].concat()
+    }),
+    ("h>!8", |place| vec![Value::Integer(place)]),
+    ("!8d b", |place| vec![Value::float(place as f64 / 2.0), Value::Integer(-place)]),
+    ("b Xi4 !4", |place| vec![Value::Integer(place)]),
+    ("z", |place| vec![text(&b"station"[..place as usize])]),
+    ("s2 c3", |place| vec![text(&b"name"[place as usize % 4..]), text(&b"ABC"[..place as usize % 4])]),
+];
+
+/// The lists of a profile, from place 1 on.
+fn lists_of((_, list): Profile, count: i64) -> Vec<Vec<u8>> {
+    (1..=count).map(|place| encode(&list(place))).collect()
+}
+
+/// Runs with a list at one place that is refused, and with another behind it.
+fn refused_trays(recording: &mut Recording) {
+    let other_kind = encode(&[Value::Other]);
+    for profile in &PROFILES[1..] {
+        let lists = lists_of(*profile, 4);
+        for place in 0..lists.len() {
+            for refused in [&[][..], &other_kind, &[3, 0, 2, b'A']] {
+                let mut lists = lists.clone();
+                lists[place] = refused.to_vec();
+                recording.tray(profile.0.as_bytes(), &as_run(&lists));
+                if let Some(later) = lists.get_mut(place + 1) {
+                    *later = vec![4];
+                    recording.tray(profile.0.as_bytes(), &as_run(&lists));
+                }
+            }
+        }
+    }
+}
+
+/// A run cut at each byte, with a byte more, and with each length a byte off; a format that is refused comes after that.
+fn damaged_runs(recording: &mut Recording) {
+    for (format, profile) in [("b", PROFILES[1]), ("q", PROFILES[1]), ("z", PROFILES[7])] {
+        let lists = lists_of(profile, 2);
+        let (run, second) = (as_run(&lists), 2 + lists[0].len());
+        (1..run.len()).for_each(|length| recording.tray(format.as_bytes(), &run[..length]));
+        for byte in [0, 3] {
+            recording.tray(format.as_bytes(), &[&run[..], &[byte]].concat());
+        }
+        for at in [0, 1, second, second + 1] {
+            for more in [1, 255] {
+                let mut changed = run.clone();
+                changed[at] = changed[at].wrapping_add(more);
+                recording.tray(format.as_bytes(), &changed);
+            }
+        }
+    }
+}
+
+fn trays(recording: &mut Recording) {
+    recording.group("trays: no list, and empty lists");
+    let formats = ["", "x", "b", "z", "q", "c", "c0", "!3", "i17", "!4i3", "X", "c9223372036854775807", "!2x"];
+    for (format, count) in formats.iter().flat_map(|format| [0, 1, 2, 3].map(|count| (format, count))) {
+        recording.tray(format.as_bytes(), &as_run(vec![&[][..]; count]));
+    }
+    recording.group("trays: one list, and several");
+    for (profile, count) in PROFILES.iter().flat_map(|profile| [1, 2, 3, 6].map(|count| (profile, count))) {
+        recording.tray(profile.0.as_bytes(), &as_run(lists_of(*profile, count)));
+    }
+    recording.group("trays: a record refused at each place");
+    refused_trays(recording);
+    recording.group("trays: damaged runs");
+    damaged_runs(recording);
+    recording.group("trays: random formats and runs");
+    let mut random = Random::new(4);
+    for _ in 0..150 {
+        let case = tray::drawn(&mut random);
+        recording.tray(&case.format, &case.run);
     }
 }

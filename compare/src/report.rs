@@ -256,6 +256,15 @@ pub fn grouped(number: u64) -> String {
     text
 }
 
+// ---- what has to hold
+
+/// An error says what doesn't.
+pub type Held = Result<(), String>;
+
+pub fn hold(condition: bool, why: impl FnOnce() -> String) -> Held {
+    if condition { Ok(()) } else { Err(why()) }
+}
+
 // ---- lent buffers
 
 /// A buffer filled with a pattern, so that a changed byte shows.
@@ -267,9 +276,15 @@ fn pattern(at: usize) -> u8 {
     (at as u8).wrapping_mul(167) ^ (at >> 8) as u8 ^ 0x5A
 }
 
-/// The buffer's bytes from `start` on are as they were lent.
+/// The buffer's bytes from `start` on are as they were lent. All are looked at, which is faster than to stop at the first.
 pub fn untouched(buffer: &[u8], start: usize) -> bool {
-    buffer.iter().enumerate().skip(start).all(|(at, byte)| *byte == pattern(at))
+    let changed = |(at, byte): (usize, &u8)| *byte ^ pattern(at);
+    (start..).zip(&buffer[start.min(buffer.len())..]).map(changed).fold(0, |all, changed| all | changed) == 0
+}
+
+/// The compiler may take lent bytes for unchanged, so they are read anew.
+pub fn same_after(lent: &[u8], before: &[u8]) -> Held {
+    hold(std::hint::black_box(lent) == before, || "a byte that was only lent for reading changed".to_string())
 }
 
 /// The number of a refusal that left all of the buffer as it was lent, none where the call accepted.

@@ -1,15 +1,15 @@
 //! All calls at scale: each case goes to ours, to the original and to Lua, and the summary into a page.
 
-use crate::beside::{Compared, ask_lua, beside_lua, beside_original};
+use crate::beside::{Beside, ask_lua};
 use crate::r#gen::Random;
 use crate::lua::Lua;
-use crate::lua_domain::Asked;
 use crate::measure;
 use crate::original::Original;
 use crate::page;
 use crate::properties;
 use crate::read;
 use crate::report::{Check, Count, Tally, grouped};
+use crate::tray;
 use crate::write::Written;
 use crate::{domain, lua_domain};
 use std::fmt::Write;
@@ -64,7 +64,12 @@ fn compare_all(numbers: &Numbers, module: bool) -> Result<(Vec<Tally>, String), 
     let readings = std::iter::repeat_with(|| read::drawn(&mut random, &mut writer)).flatten();
     tallies.extend(compare("read", readings.take(cases as usize), cases, &mut others));
 
+    let mut random = Random::new(seed);
+    let trays = tray::all_cases(&mut random, cases);
+    tallies.extend(compare("tray", trays, tray::case_count(cases), &mut others));
+
     others.lua.finish()?;
+    tallies.push(tray::against_single_calls(seed, cases));
     tallies.push(properties::run(seed, cases));
     Ok((tallies, version))
 }
@@ -74,7 +79,7 @@ fn compare_all(numbers: &Numbers, module: bool) -> Result<(Vec<Tally>, String), 
 /// So many cases are shown to Lua at a time.
 const BATCH: usize = 500;
 
-fn compare<C: Compared>(
+fn compare<C: Beside>(
     what: &'static str,
     mut cases: impl Iterator<Item = C>,
     total: u64,
@@ -96,11 +101,11 @@ fn compare<C: Compared>(
     [original, lua]
 }
 
-fn compare_batch<C: Compared>(batch: &[C], others: &mut Others, by_original: &mut Tally, by_lua: &mut Tally) {
+fn compare_batch<C: Beside>(batch: &[C], others: &mut Others, by_original: &mut Tally, by_lua: &mut Tally) {
     let Others { original, lua, cap } = others;
     for case in batch {
-        let checked = beside_original(case, original, *cap);
-        by_original.count(case, checked, &mut |case: &C| beside_original(case, original, *cap));
+        let checked = case.by_original(original, *cap);
+        by_original.count(case, checked, &mut |case: &C| case.by_original(original, *cap));
     }
     for (case, checked) in batch.iter().zip(ask_batch(batch, lua, *cap)) {
         by_lua.count(case, checked, &mut |case: &C| ask_lua(case, lua, *cap));
@@ -108,19 +113,11 @@ fn compare_batch<C: Compared>(batch: &[C], others: &mut Others, by_original: &mu
 }
 
 /// All at once; one by one where Lua ends, so that the case shows at which it does.
-fn ask_batch<C: Compared>(batch: &[C], lua: &mut Lua, cap: u64) -> Vec<Check> {
-    let asked: Vec<Asked> = batch.iter().map(|case| case.asked(cap)).collect();
-    let questions: Vec<_> = asked.iter().map(|asked| &asked.question).collect();
-    match lua.ask(&questions) {
-        Ok(answers) => {
-            let each = batch.iter().zip(&asked).zip(&answers);
-            each.map(|((case, asked), answer)| beside_lua(case, asked, answer, cap)).collect()
-        }
-        Err(why) => {
-            lua.restart().expect(&why);
-            batch.iter().map(|case| ask_lua(case, lua, cap)).collect()
-        }
-    }
+fn ask_batch<C: Beside>(batch: &[C], lua: &mut Lua, cap: u64) -> Vec<Check> {
+    C::by_lua(batch, lua, cap).unwrap_or_else(|why| {
+        lua.restart().expect(&why);
+        batch.iter().map(|case| ask_lua(case, lua, cap)).collect()
+    })
 }
 
 struct Progress {

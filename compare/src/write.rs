@@ -3,7 +3,7 @@
 use crate::beside::{Compared, beside_original};
 use crate::domain;
 use crate::r#gen::{self, Random, Use};
-use crate::items::items;
+use crate::items::{Item, items};
 use crate::lua::Module;
 use crate::lua_domain::{self, Asked};
 use crate::original::{Original, Outcome};
@@ -85,6 +85,34 @@ fn simpler(value: &Value) -> Vec<Value> {
     }
 }
 
+/// The format without each of its items, and the place of the value that the item takes.
+pub fn without_each_item(format: &[u8]) -> Vec<(Vec<u8>, Option<usize>)> {
+    let mut taken = 0;
+    let mut without = |item: Item| {
+        let value = item.has_value().then_some(taken);
+        taken += usize::from(item.has_value());
+        ([&format[..item.start], &format[item.end..]].concat(), value)
+    };
+    items(format).into_iter().map(&mut without).collect()
+}
+
+/// The values without one of them, where there is one at the place.
+pub fn without(values: &[Value], place: Option<usize>) -> Vec<Value> {
+    let kept = |at: &usize| Some(*at) != place;
+    (0..values.len()).filter(kept).map(|at| values[at].clone()).collect()
+}
+
+/// The values without one of them, or with a simpler one.
+pub fn fewer_or_simpler(values: &[Value]) -> Vec<Vec<Value>> {
+    let mut all = Vec::new();
+    for (at, value) in values.iter().enumerate() {
+        let with = |instead: &[Value]| [&values[..at], instead, &values[at + 1..]].concat();
+        all.push(with(&[]));
+        all.extend(simpler(value).into_iter().map(|simpler| with(&[simpler])));
+    }
+    all
+}
+
 impl Case for Written {
     fn weight(&self) -> usize {
         self.format.len() + self.list.len()
@@ -100,27 +128,11 @@ impl Case for Written {
             return vec![];
         }
         let mut all = Vec::new();
-        let mut taken = 0;
-        for item in items(&self.format) {
-            let format = [&self.format[..item.start], &self.format[item.end..]].concat();
-            let mut values = self.values.clone();
-            if item.has_value() && taken < values.len() {
-                values.remove(taken);
-            }
-            taken += usize::from(item.has_value());
-            all.push(with(&format, values));
+        for (format, taken) in without_each_item(&self.format) {
+            all.push(with(&format, without(&self.values, taken)));
         }
         all.extend(shorter(&self.format).iter().map(|format| with(format, self.values.clone())));
-        for at in 0..self.values.len() {
-            let mut values = self.values.clone();
-            values.remove(at);
-            all.push(with(&self.format, values));
-            for value in simpler(&self.values[at]) {
-                let mut values = self.values.clone();
-                values[at] = value;
-                all.push(with(&self.format, values));
-            }
-        }
+        all.extend(fewer_or_simpler(&self.values).into_iter().map(|values| with(&self.format, values)));
         all
     }
 

@@ -11,6 +11,7 @@
 //! Callgrind counts `rep movsb` as an instruction for each byte, so the C library is told to copy by vectors.
 
 use super::parts::{self, Way};
+use super::trays::{self, Trays};
 use super::workloads::{Workload, growing, with_goals};
 use crate::r#gen::Random;
 use crate::original::lua_vm::LuaState;
@@ -77,27 +78,43 @@ impl Heap {
     }
 }
 
-/// The counted program: two empty calls, then each workload by the original and by ours, then records in parts, then the
-/// stand-ins.
+/// The counted program: two empty calls, then each workload by the original and by ours, then records in parts, then trays,
+/// then the stand-ins.
 pub fn counted() {
     count(REPEATS, &mut (), |()| (), |()| ());
     count_ours(REPEATS, &mut || ());
     for workload in with_goals().iter().chain(&growing()) {
         let repeats = repeats(workload);
-        let mut heap = Heap { random: Random::new(1), blocks: vec![] };
-        workload.with_original(|call, state| {
-            let mut reset = |state: &mut LuaState| {
-                state.clear();
-                heap.change();
-            };
-            count(repeats, state, |state| assert!(call(state).is_ok()), &mut reset);
-        });
+        count_original(repeats, workload);
         count_ours(repeats, &mut workload.ours());
     }
     for parts in parts::all() {
         Way::ALL.into_iter().for_each(|way| count_ours(REPEATS, &mut parts.written(way)));
     }
+    for trays in trays::all() {
+        if trays.has_goal() {
+            count_original(trays.count as u64, &trays.single());
+        }
+        count_ours(tray_repeats(&trays), &mut trays.ours_each());
+        count_ours(tray_repeats(&trays), &mut trays.ours());
+    }
     STAND_INS.iter().for_each(|(_, stand_in)| count_stand_in(*stand_in));
+}
+
+fn count_original(repeats: u64, workload: &Workload) {
+    let mut heap = Heap { random: Random::new(1), blocks: vec![] };
+    workload.with_original(|call, state| {
+        let mut reset = |state: &mut LuaState| {
+            state.clear();
+            heap.change();
+        };
+        count(repeats, state, |state| assert!(call(state).is_ok()), &mut reset);
+    });
+}
+
+/// Ours costs the same each time, so large trays are counted twice only.
+fn tray_repeats(trays: &Trays) -> u64 {
+    if trays.count > 100 { 2 } else { REPEATS }
 }
 
 fn count_ours(repeats: u64, mut ours: &mut dyn FnMut()) {
@@ -144,8 +161,18 @@ pub struct Counts {
     pub workloads: Vec<[f64; 2]>,
     /// For each number of parts, of each way to write them.
     pub parts: Vec<[f64; 3]>,
+    /// For each of the trays.
+    pub trays: Vec<TrayCounts>,
     /// The stand-ins' parts by name, of one use.
     pub stand_ins: Vec<(&'static str, f64)>,
+}
+
+pub struct TrayCounts {
+    pub tray: f64,
+    /// Of as many single calls.
+    pub each: f64,
+    /// Of the original's, where they are counted.
+    pub original: Option<f64>,
 }
 
 /// Runs the counted program; the workloads are those of `counted`, in its order.
@@ -154,13 +181,19 @@ pub fn counts<'a>(workloads: impl Iterator<Item = &'a Workload>, folder: &Path) 
     let mut next = || files.next().ok_or_else(|| "valgrind gave too few counts.".to_string());
     let mut per_call = |repeats: u64| next().map(|count| count as f64 / repeats as f64);
     let (empty, empty_ours) = (per_call(REPEATS)?, per_call(REPEATS)?);
-    let mut all = Counts { workloads: vec![], parts: vec![], stand_ins: vec![] };
+    let mut all = Counts { workloads: vec![], parts: vec![], trays: vec![], stand_ins: vec![] };
     for workload in workloads {
         let repeats = repeats(workload);
         all.workloads.push([per_call(repeats)? - empty, per_call(repeats)? - empty_ours]);
     }
     for _ in parts::COUNTS {
         all.parts.push([per_call(REPEATS)?, per_call(REPEATS)?, per_call(REPEATS)?].map(|count| count - empty_ours));
+    }
+    for trays in trays::all() {
+        let (repeats, count) = (tray_repeats(&trays), trays.count as u64);
+        let original = if trays.has_goal() { Some((per_call(count)? - empty) * count as f64) } else { None };
+        let [each, tray] = [per_call(repeats)?, per_call(repeats)?].map(|count| count - empty_ours);
+        all.trays.push(TrayCounts { tray, each, original });
     }
     for (name, _) in STAND_INS {
         all.stand_ins.push((name, (per_call(REPEATS)? - empty) / TIMES as f64));

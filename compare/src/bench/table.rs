@@ -2,8 +2,9 @@
 
 use super::parts::{self, Way};
 use super::time::{LEAST, SAMPLES};
+use super::trays::{GOAL, RECORDS, Trays};
 use super::workloads::{COUNTS, Goal, Kind};
-use super::{Costs, Report, Row};
+use super::{Costs, Report, Row, TrayCosts, TrayRow};
 use crate::page;
 use crate::report::grouped;
 use std::fmt::Write;
@@ -15,6 +16,8 @@ pub fn tables(report: &Report) -> String {
     times(&mut text, &report.goals);
     growth(&mut text, &report.growth);
     in_parts(&mut text, &report.parts);
+    trays(&mut text, &report.trays);
+    growing_trays(&mut text, &report.growing_trays);
     text
 }
 
@@ -87,6 +90,42 @@ fn in_parts(text: &mut String, counts: &[([f64; 3], f64)]) {
     for (count, ([rest, takeable, writer], lua)) in parts::COUNTS.iter().zip(counts) {
         let costs = [rest, takeable, writer, lua].map(|cost| grouped(cost.round() as u64)).join(" | ");
         let _ = writeln!(text, "| {} | {costs} |", grouped(*count as u64));
+    }
+}
+
+/// For each format a row of instructions and one of time.
+fn trays(text: &mut String, rows: &[TrayRow]) {
+    let _ = write!(
+        text,
+        "\nA tray of {RECORDS} records beside a single call for each; a ratio in bold misses its goal:\n\n\
+         | records, cost | tray | our single calls | original's | Lua 5.4's | tray to our single calls | goal | to the original's |\n\
+         |---|---|---|---|---|---|---|---|\n"
+    );
+    for row in rows {
+        tray_line(text, row, "instructions", &row.instructions, |count| grouped(count.round() as u64));
+        tray_line(text, row, "time", &row.nanoseconds, duration);
+    }
+}
+
+fn tray_line(text: &mut String, row: &TrayRow, what: &str, costs: &TrayCosts, shown: impl Fn(f64) -> String) {
+    let (by_each, by_original) = (costs.tray / costs.each, costs.tray / costs.original);
+    let mark = if by_each > GOAL { "**" } else { "" };
+    let shown = [costs.tray, costs.each, costs.original, costs.lua].map(shown).join(" | ");
+    let format = row.trays.format;
+    let _ = writeln!(text, "| `{format}`, {what} | {shown} | {mark}{by_each:.2}{mark} | {GOAL:?} | {by_original:.2} |");
+}
+
+/// For each format, a row for each number of records.
+fn growing_trays(text: &mut String, rows: &[(Trays, [f64; 2])]) {
+    let _ = write!(
+        text,
+        "\nInstructions of a tray, how they grow with its records, beside our single calls:\n\n\
+         | format | records | tray | for each record | single calls | for each record |\n|---|---|---|---|---|---|\n"
+    );
+    for (trays, costs) in rows {
+        let of_each = |cost: f64| grouped((cost / trays.count as f64).round() as u64);
+        let costs = costs.map(|cost| format!("{} | {}", grouped(cost.round() as u64), of_each(cost))).join(" | ");
+        let _ = writeln!(text, "| `{}` | {} | {costs} |", trays.format, grouped(trays.count as u64));
     }
 }
 

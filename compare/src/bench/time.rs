@@ -1,9 +1,11 @@
-//! Time per call of ours and of the original: processor time, by the clock that Lua's os.clock reads too.
+//! Time per call of ours and of the original, and of trays beside single calls: processor time, by the clock that Lua's
+//! os.clock reads too.
 //!
-//! A sample is as many calls as take a millisecond, at least one. Samples of both take turns; the least of each counts.
+//! A sample is as many calls as take a millisecond, at least one. Samples of each side take turns; the least of each counts.
 //! Speed depends on where in memory buffers lie, so they are made anew at other places some times. Of the original,
 //! freeing its results is part of a call.
 
+use super::trays::Trays;
 use super::workloads::Workload;
 use std::hint::black_box;
 
@@ -49,18 +51,33 @@ pub fn times(workload: &Workload) -> [f64; 2] {
                 assert!(call(state).is_ok());
                 state.clear();
             };
-            sample_both(&mut original, &mut ours, &mut least);
+            sample_in_turns([&mut original, &mut ours], &mut least);
         });
     }
     least
 }
 
-fn sample_both(original: &mut dyn FnMut(), ours: &mut dyn FnMut(), least: &mut [f64; 2]) {
-    let calls = [enough(original), enough(ours)];
+/// Nanoseconds of a tray, of our single calls and of the original's.
+pub fn times_of_tray(trays: &Trays) -> [f64; 3] {
+    let mut least = [f64::INFINITY; 3];
+    let mut blocks = Vec::new();
+    let single = trays.single();
+    for place in 0..PLACES {
+        blocks.push(vec![0_u8; 200 + 104 * place]);
+        let (mut tray, mut each) = (trays.ours(), trays.ours_each());
+        single.with_original(|call, state| {
+            let mut original = || trays.original_each(call, state);
+            sample_in_turns([&mut tray, &mut each, &mut original], &mut least);
+        });
+    }
+    least
+}
+
+fn sample_in_turns<const N: usize>(mut sides: [&mut dyn FnMut(); N], least: &mut [f64; N]) {
+    let calls: Vec<u64> = sides.iter_mut().map(|side| enough(side)).collect();
     for _ in 0..SAMPLES_AT_A_PLACE {
-        let samples = [sample(calls[0], original), sample(calls[1], ours)];
-        for side in 0..2 {
-            least[side] = least[side].min(samples[side] as f64 * 1000.0 / calls[side] as f64);
+        for ((side, calls), least) in sides.iter_mut().zip(&calls).zip(&mut *least) {
+            *least = least.min(sample(*calls, side) as f64 * 1000.0 / *calls as f64);
         }
     }
 }

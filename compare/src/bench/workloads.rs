@@ -78,10 +78,26 @@ fn issues() -> String {
     format!(">{}", "I2I2B".repeat(64))
 }
 
+fn integers(integers: &[i64]) -> Vec<Value> {
+    integers.iter().map(|integer| Value::Integer(*integer)).collect()
+}
+
+fn text(text: &str) -> Value {
+    Value::Text(text.as_bytes().to_vec())
+}
+
+/// The values of `<!4 b i h I4 s1`.
+pub fn small() -> Vec<Value> {
+    [integers(&[1, -2, 300, 70_000]), vec![text("holder")]].concat()
+}
+
+/// The values of `>I2I2B`.
+pub fn issue() -> Vec<Value> {
+    integers(&[500, 3, 1])
+}
+
 /// For writing, or for reading what was written.
 fn records(kind: Kind) -> Vec<Workload> {
-    let integers = |integers: &[i64]| integers.iter().map(|integer| Value::Integer(*integer)).collect::<Vec<_>>();
-    let text = |text: &str| Value::Text(text.as_bytes().to_vec());
     let goal = |writing: f64, reading: f64| Goal::Instructions(if kind == Kind::Writing { writing } else { reading });
     let add = |name: &str, format: &str, values: Vec<Value>, goal: Goal| Workload {
         kind,
@@ -90,15 +106,14 @@ fn records(kind: Kind) -> Vec<Workload> {
         values,
         goal: Some(goal),
     };
-    let small = [integers(&[1, -2, 300, 70_000]), vec![text("holder")]].concat();
     let wide = vec![Value::Integer(1), Value::float(2.5), Value::float(-0.1), Value::Integer(-9), Value::Integer(12)];
     let texts = vec![text("a holder's name"), text("a station"), text("a profile of a pass")];
     let (many, many_values) = mixed(1000, true);
     vec![
-        add("`<!4 b i h I4 s1`", "<!4 b i h I4 s1", small, goal(0.6, 0.75)),
+        add("`<!4 b i h I4 s1`", "<!4 b i h I4 s1", small(), goal(0.6, 0.75)),
         add("`!8 b d n j T`", "!8 b d n j T", wide, goal(0.6, 1.0)),
         add("`s2 z c64`", "s2 z c64", texts, goal(0.6, 0.75)),
-        add("`>I2I2B` 64 times", &issues(), integers(&[500, 3, 1].repeat(64)), goal(0.6, 0.75)),
+        add("`>I2I2B` 64 times", &issues(), vec![issue(); 64].concat(), goal(0.6, 0.75)),
         add("1,000 mixed items", &many, many_values, goal(0.8, 1.0)),
         add("`s2`, a text of 60,000 bytes", "s2", vec![text(&"t".repeat(60_000))], Goal::Time(1.2)),
     ]
