@@ -53,7 +53,7 @@ BOXES = [
     ("leaf", 276, 60, 80, 58, "decode", ["for fetch:", "17 to 20"]),
     ("proved", 356, 326, 130, 68, "fetch", ["what reading takes", "for an item"]),
     ("proved", 526, 146, 130, 68, "measure, bound", ["string_packsize,", "list_bound"]),
-    ("proved", 526, 236, 130, 78, "write", ["string_pack,", "pack_continued;", "write_pass, emit"]),
+    ("proved", 526, 236, 130, 78, "write, tray", ["string_pack,", "pack_continued;", "pack_tray"]),
     ("proved", 526, 326, 130, 68, "read", ["string_unpack;", "read_pass"]),
     ("proved", 696, 146, 110, 248, "digribbon", [
         "the calls", "under C names:", "0, or a refusal's", "number"]),
@@ -64,7 +64,7 @@ BOXES = [
     ("proved", 696, 60, 110, 58, "line", ["the line printed"]),
     ("proved", 846, 60, 114, 58, "packsize", ["the program"]),
     ("leaf", 186, 452, 118, 104, "align", ["the state, padding;", "for format,", "measure, plan,", "fetch, write, read"]),
-    ("leaf", 318, 452, 118, 104, "values, fields", ["the value list;", "for numbers, word,", "plan, write, read"]),
+    ("leaf", 318, 452, 118, 104, "values, fields", ["the value list, and", "runs of them; for", "numbers, word, plan,", "write, tray, read"]),
     ("leaf", 450, 452, 118, 104, "numbers", ["a value as integer", "or as number;", "for word"]),
     ("leaf", 582, 452, 118, 104, "single", ["f64 to f32, and", "back; for word,", "numbers, decode"]),
     ("leaf", 714, 452, 118, 104, "load, store", ["integers as bytes,", "with words;", "for values, fields,", "decode, emit"]),
