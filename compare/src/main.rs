@@ -45,7 +45,7 @@ fn main() -> ExitCode {
         "measure" => (&[("seed", 1), ("cases", 2_000_000), ("length", 4)], 0..=0),
         "write" => (&[("seed", 1), ("cases", 6_000_000), ("cap", 100_000)], 0..=0),
         "read" => (&[("seed", 1), ("cases", 6_000_000)], 0..=0),
-        "tray" => (&[("seed", 1), ("cases", 1_000_000), ("cap", 100_000)], 0..=0),
+        "tray" => (&[("seed", 1), ("cases", 1_000_000), ("length", 4), ("cap", 100_000)], 0..=0),
         "properties" => (&[("seed", 1), ("cases", 1_000_000)], 0..=0),
         "record" => (&[], 1..=1),
         "bench" => (&[], 0..=1),
@@ -89,7 +89,7 @@ fn run(command: &str, arguments: &Arguments) -> ExitCode {
         ("measure", _) => measure::run(number("seed"), number("cases"), number("length") as u32),
         ("write", _) => write::run(number("seed"), number("cases"), number("cap")),
         ("read", _) => read::run(number("seed"), number("cases")),
-        ("tray", _) => tray::run(number("seed"), number("cases"), number("cap")),
+        ("tray", _) => tray::run(number("seed"), number("cases"), number("length") as u32, number("cap")),
         ("properties", _) => properties::run(number("seed"), number("cases")).finish(),
         ("record", Some(directory)) => record::run(directory),
         ("bench-counted", _) => {

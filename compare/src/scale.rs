@@ -65,11 +65,11 @@ fn compare_all(numbers: &Numbers, module: bool) -> Result<(Vec<Tally>, String), 
     tallies.extend(compare("read", readings.take(cases as usize), cases, &mut others));
 
     let mut random = Random::new(seed);
-    let trays = tray::all_cases(&mut random, cases);
-    tallies.extend(compare("tray", trays, tray::case_count(cases), &mut others));
+    let trays = tray::all_cases(&mut random, cases, length);
+    tallies.extend(compare("tray", trays, tray::case_count(cases, length), &mut others));
 
     others.lua.finish()?;
-    tallies.push(tray::against_single_calls(seed, cases));
+    tallies.push(tray::against_single_calls(seed, cases, length));
     tallies.push(properties::run(seed, cases));
     Ok((tallies, version))
 }

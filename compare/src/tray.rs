@@ -95,12 +95,12 @@ fn called(format: &[u8], run: &[u8], room: usize) -> Result<Tray<u64>, String> {
 // ---- the command
 
 /// Every short run, then `cases` random ones, against our single calls and beside the original.
-pub fn run(seed: u64, cases: u64, cap: u64) -> ExitCode {
-    let alone = against_single_calls(seed, cases);
+pub fn run(seed: u64, cases: u64, length: u32, cap: u64) -> ExitCode {
+    let alone = against_single_calls(seed, cases, length);
     let mut original = Original::default();
     let mut tally = Tally::beside::<domain::Clause, domain::Finding>("tray", "the original");
     let mut check = |case: &Trayed| case.by_original(&mut original, cap);
-    all_cases(&mut Random::new(seed), cases).all(|case| tally.examine(&case, &mut check));
+    all_cases(&mut Random::new(seed), cases, length).all(|case| tally.examine(&case, &mut check));
     print!("{}", alone.text());
     match (alone.differences, tally.finish()) {
         (0, status) => status,

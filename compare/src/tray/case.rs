@@ -35,13 +35,13 @@ pub fn as_run<L: AsRef<[u8]>>(lists: impl IntoIterator<Item = L>) -> Vec<u8> {
 }
 
 /// Every short run, then `random` ones.
-pub fn all_cases(random: &mut Random, cases: u64) -> impl Iterator<Item = Trayed> {
-    every_short().chain((0..cases).map(|_| drawn(random)))
+pub fn all_cases(random: &mut Random, cases: u64, length: u32) -> impl Iterator<Item = Trayed> {
+    every_short(length).chain((0..cases).map(|_| drawn(random)))
 }
 
 /// How many these are.
-pub fn case_count(cases: u64) -> u64 {
-    let runs: u64 = SHORT.iter().map(|(bytes, length)| r#gen::count_over(bytes.len(), *length)).sum();
+pub fn case_count(cases: u64, length: u32) -> u64 {
+    let runs: u64 = short(length).iter().map(|(bytes, most)| r#gen::count_over(bytes.len(), *most)).sum();
     runs * FORMATS.len() as u64 + cases
 }
 
@@ -52,10 +52,12 @@ pub fn case_count(cases: u64) -> u64 {
 const FORMATS: [&str; 13] = ["", "x", "b", "z", "q", "c0", "c1", "s1", "zz", "xq", "zb", "!4Xix", "Xix!4"];
 
 /// Bytes, and up to how many of them a run has. Three bytes are a field: 00 00 00, or 03 00 00, an empty text.
-const SHORT: [(&[u8], u32); 2] = [(&[0, 1, 2, 3, 4, 255], 5), (&[0, 3], 12)];
+fn short(length: u32) -> [(&'static [u8], u32); 2] {
+    [(&[0, 1, 2, 3, 4, 255], length + 1), (&[0, 3], 3 * length)]
+}
 
-fn every_short() -> impl Iterator<Item = Trayed> {
-    let runs = SHORT.iter().flat_map(|(bytes, length)| r#gen::every_over(bytes.to_vec(), *length));
+fn every_short(length: u32) -> impl Iterator<Item = Trayed> {
+    let runs = short(length).into_iter().flat_map(|(bytes, most)| r#gen::every_over(bytes.to_vec(), most));
     runs.flat_map(|run| FORMATS.map(|format| Trayed { format: format.into(), run: run.clone(), spare: 1, lacking: 1 }))
 }
 

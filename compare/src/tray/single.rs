@@ -24,7 +24,7 @@ struct Counts {
 }
 
 /// Every short run, then `cases` random ones. Prints how often each kind of them came up.
-pub fn against_single_calls(seed: u64, cases: u64) -> Tally {
+pub fn against_single_calls(seed: u64, cases: u64, length: u32) -> Tally {
     let mut tally = Tally::alone("tray");
     tally.beside = "our single calls";
     let mut counts = Counts::default();
@@ -33,7 +33,7 @@ pub fn against_single_calls(seed: u64, cases: u64) -> Tally {
         Ok(false) => Check::Refused,
         Err(why) => Check::Differs(why),
     };
-    all_cases(&mut Random::new(seed), cases).all(|case| tally.examine(&case, &mut check));
+    all_cases(&mut Random::new(seed), cases, length).all(|case| tally.examine(&case, &mut check));
     tally.end();
     print(&counts);
     tally
