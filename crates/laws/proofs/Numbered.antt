@@ -19,7 +19,7 @@ use Rattle.definition.specs.declared.State.{State}
 use Rattle.laws.proofs.Answers.{never, same-number}
 use Rattle.laws.proofs.Refusals.{Refuses, items-give, calls-give, ByCall, low, fine, low-bind, low-check, low-up, among-all, low-measure, low-bound, low-pack, low-unpack, low-tray}
 
-listed : {A : Type 0} (c : Checked A) → Refuses (among refusals) c → Listed c
+pub listed : {A : Type 0} (c : Checked A) → Refuses (among refusals) c → Listed c
 listed (refused j) (low h) k e = subst (λ (x : ℕ). T (among refusals x)) (same-number e) h
 listed (accepted a) h k e = absurd (never (sym e))
 

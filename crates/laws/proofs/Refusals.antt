@@ -68,7 +68,7 @@ module _ {test : ℕ → Bool} where
   low-bind (refused k) f (low h) g = low h
   low-bind (accepted a) f h g = g a
 
-  low-then : {A B : Type 0} (c : Checked A) (d : Checked B) → Refuses test c → Refuses test d → Refuses test (c >> d)
+  pub low-then : {A B : Type 0} (c : Checked A) (d : Checked B) → Refuses test c → Refuses test d → Refuses test (c >> d)
   low-then (refused k) d (low h) g = low h
   low-then (accepted a) d h g = g
 

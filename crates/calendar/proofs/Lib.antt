@@ -1,0 +1,10 @@
+pub mod Counts
+pub mod Dates
+pub mod Existence
+pub mod Months
+pub mod Calls
+pub mod Conversions
+pub mod LastDays
+pub mod Numbers
+pub mod Rows
+pub mod Premises

@@ -1,0 +1,4 @@
+pub mod Calendar
+pub mod Examples
+pub mod Claims
+pub mod Premises
