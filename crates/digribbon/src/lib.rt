@@ -2,6 +2,11 @@
 // is told in both cases.
 use align::state;
 use bound::list_bound;
+use dates::Dated;
+use dates::Day;
+use dates::date_of;
+use dates::day_number;
+use dates::last_day;
 use measure::Measured;
 use measure::string_packsize;
 use read::Unpacking;
@@ -18,8 +23,10 @@ ghost use Rattle.definition.specs.Answers.{accepted};
 ghost use Rattle.definition.specs.Lists.{offsetAfter};
 ghost use Rattle.definition.specs.Calls.{stringPacksize, listBound, stringPack, packContinued, stringUnpack};
 ghost use Rattle.definition.specs.Trays.{packTray};
+ghost use Rattle.calendar.specs.Calendar.{dayNumber, dateOf, lastDay};
+ghost use Rattle.dates.specs.Answers.{dayOf};
 ghost use Rattle.measure.specs.Measured.{measuredOf};
-ghost use Rattle.digribbon.specs.Answers.{told, toldWith, toldAt, word, continuedWords, unpackedWords, stateOf};
+ghost use Rattle.digribbon.specs.Answers.{told, toldWith, toldAt, word, continuedWords, unpackedWords, dateWords, stateOf};
 
 // A size in the answer, or a refusal's number.
 fn tell_size(m: Measured, answer: &mut [u64; 1]) -> u64
@@ -148,4 +155,52 @@ pub extern "C" fn digribbon_list_after(list: &[u8], fields: u64, answer: &mut [u
 {
     *answer = [fields_after(list, fields) as u64];
     0
+}
+
+// A day number in the answer, or a refusal's number.
+fn tell_day(d: Day, answer: &mut [u64; 1]) -> u64
+    ensures { λ r. ⌜ (r, now (answer .exit)) ≡ told word (now (answer .entry)) (dayOf d) ⌝ }
+{
+    match d {
+        Day::Refused(k) => k as u64,
+        Day::Number(day) => {
+            *answer = [day];
+            0
+        }
+    }
+}
+
+// The day number of a date.
+#[no_mangle]
+pub extern "C" fn digribbon_day_number(
+    year: i64,
+    month: i64,
+    day: i64,
+    answer: &mut [u64; 1],
+) -> u64
+    ensures { λ r. ⌜ (r, now (answer .exit)) ≡ told word (now (answer .entry)) (dayNumber year month day) ⌝ }
+{
+    tell_day(day_number(year, month, day), answer)
+}
+
+// The date of a day number: its year, month and day.
+#[no_mangle]
+pub extern "C" fn digribbon_date(day: i64, answer: &mut [u64; 3]) -> u64
+    ensures { λ r. ⌜ (r, now (answer .exit)) ≡ told dateWords (now (answer .entry)) (dateOf day) ⌝ }
+{
+    match date_of(day) {
+        Dated::Refused(k) => k as u64,
+        Dated::Date(d) => {
+            *answer = [d.year, d.month, d.day];
+            0
+        }
+    }
+}
+
+// The last day of a pass, from its first day and its months.
+#[no_mangle]
+pub extern "C" fn digribbon_last_day(first: i64, months: i64, answer: &mut [u64; 1]) -> u64
+    ensures { λ r. ⌜ (r, now (answer .exit)) ≡ told word (now (answer .entry)) (lastDay first months) ⌝ }
+{
+    tell_day(last_day(first, months), answer)
 }
