@@ -1,25 +1,12 @@
-/* Every call of the header, from C. The last line says how many checks passed. */
+/*
+ * The header's calls over formats and value lists, from C; dates.c has those about days and dates. The last line says
+ * how many checks passed.
+ */
+#include "check.h"
 #include "digribbon.h"
-#include <stdbool.h>
-#include <stdio.h>
-#include <stdlib.h>
 #include <string.h>
 
-#define MARK UINT64_C(0xA5C396E15A3C691E) /* what an answer holds before a call */
-#define ABOVE (UINT64_C(1) << 63)         /* the least length that is too long */
-
-static unsigned passed;
-
-static void check(bool holds, int line, const char *what)
-{
-    if (!holds) {
-        fprintf(stderr, "test.c:%d: FAILED: %s\n", line, what);
-        exit(1);
-    }
-    passed++;
-}
-
-#define CHECK(holds) check(holds, __LINE__, #holds)
+#define ABOVE (UINT64_C(1) << 63) /* the least length that is too long */
 
 /* ---- bytes */
 
@@ -401,14 +388,15 @@ static void test_list_after(void)
     goes_on(nothing, 1, 0);
 }
 
-/* The table has the numbers 1 to 23, each with a name, a cause and a sentence. */
+/* The table has the numbers 1 to 26, each with a name, a cause and a sentence. */
 static void test_table(void)
 {
     unsigned last = 0;
 #define NEXT(number, name, cause, sentence) \
     CHECK(number == ++last && name == number && strlen(cause) > 0 && sentence[strlen(sentence) - 1] == '.');
     DIGRIBBON_REFUSALS(NEXT)
-    CHECK(last == 23 && DIGRIBBON_RESULT_TOO_LONG == 22 && DIGRIBBON_DAMAGED_RUN == 23);
+    CHECK(last == 26 && DIGRIBBON_RESULT_TOO_LONG == 22 && DIGRIBBON_DAMAGED_RUN == 23);
+    CHECK(DIGRIBBON_NO_SUCH_DATE == 24 && DIGRIBBON_DAY_TOO_LARGE == 25 && DIGRIBBON_MONTHS_OUTSIDE == 26);
 }
 
 static void test_version(void)

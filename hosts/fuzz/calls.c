@@ -2,14 +2,15 @@
  * A fuzz target over the calls of the header, for libFuzzer. An input is
  *   - a byte each: flags; the state; where the format is cut; the start; the format's length;
  *   - the format;
- *   - the bytes of which values and data are made.
+ *   - the bytes of which values, data, days and dates are made.
  *
  * Slices lie at pages that can't be touched, or the result right behind the values or the data. After each call every
  * lent byte is looked at. Then what the calls promise together: sizes, counts, 21 first and 22 last, parts, reading
- * back with other bytes as padding, writing again, bounds, trays of single records.
+ * back with other bytes as padding, writing again, bounds, trays of single records, days and dates there and back.
  */
 #include "../include/digribbon.h"
 #include "coverage.h"
+#include "numbers.h"
 #include <stdbool.h>
 #include <stdio.h>
 #include <stdlib.h>
@@ -111,19 +112,27 @@ static uint8_t *kept_start(Slice bytes)
 
 /* ---- the calls, and every lent byte after them */
 
-__attribute__((section("__libfuzzer_extra_counters"))) static uint8_t seen[6][NUMBERS];
+__attribute__((section("__libfuzzer_extra_counters"))) static uint8_t seen[9][NUMBERS];
 
-enum { MEASURING, BOUND, PLAIN, CONTINUED, READING, TRAY };
+enum { MEASURING, BOUND, PLAIN, CONTINUED, READING, TRAY, DAY_NUMBER, DATE, LAST_DAY };
 
 static Outcome nothing_yet(void)
 {
     return (Outcome){0, {MARK, MARK, MARK, MARK, MARK, MARK}, {(const uint8_t *)"", 0}, 0};
 }
 
+/* Whether a call may give such a number. */
+static bool is_known(int call, uint64_t number)
+{
+    if (call < DAY_NUMBER)
+        return number <= (call == TRAY ? 23 : 22);
+    return number == 0 || (number >= 24 && number <= (call == LAST_DAY ? 26 : 25));
+}
+
 /* The answer has so many words; a refusal changes none, and nobody those behind them. */
 static void check_words(const Outcome *outcome, int call, int words)
 {
-    HOLD(outcome->number <= (call == TRAY ? 23 : 22));
+    HOLD(is_known(call, outcome->number));
     seen[call][outcome->number] = 1;
     for (int i = outcome->number == 0 ? words : 0; i < 6; i++)
         HOLD(outcome->words[i] == MARK);
@@ -203,6 +212,30 @@ static Outcome pack_tray(Slice format, Slice run, size_t room)
     outcome.place = place[0];
     check_words(&outcome, TRAY, 1);
     check_bytes(&outcome, format, run, room, outcome.words[0]);
+    return outcome;
+}
+
+static Outcome day_number(int64_t year, int64_t month, int64_t day)
+{
+    Outcome outcome = nothing_yet();
+    outcome.number = digribbon_day_number(year, month, day, outcome.words);
+    check_words(&outcome, DAY_NUMBER, 1);
+    return outcome;
+}
+
+static Outcome date(int64_t day)
+{
+    Outcome outcome = nothing_yet();
+    outcome.number = digribbon_date(day, outcome.words);
+    check_words(&outcome, DATE, 3);
+    return outcome;
+}
+
+static Outcome last_day(int64_t first, int64_t months)
+{
+    Outcome outcome = nothing_yet();
+    outcome.number = digribbon_last_day(first, months, outcome.words);
+    check_words(&outcome, LAST_DAY, 1);
     return outcome;
 }
 
@@ -570,6 +603,50 @@ static void check_tray(Slice format, Slice run)
     HOLD(shorter.number == 22 && shorter.place == 0);
 }
 
+/* ---- dates */
+
+/* An accepted date comes back from its number. Every month has 28 days, and none has 32. */
+static void check_date(int64_t year, int64_t month, int64_t day)
+{
+    Outcome number = day_number(year, month, day), back;
+    bool is_near = year >= 2000 && month >= 1 && month <= 12 && day >= 1 && day <= 31;
+    HOLD(is_near || number.number == 24);
+    HOLD(!is_near || day > 28 || number.number == (year > 2179 ? 25 : 0) || year == 2179);
+    HOLD(year <= 2179 || number.number != 0);
+    if (number.number != 0)
+        return;
+    HOLD(number.words[0] <= 65535);
+    back = date((int64_t)number.words[0]);
+    HOLD(back.number == 0 && back.words[0] == (uint64_t)year && back.words[1] == (uint64_t)month &&
+         back.words[2] == (uint64_t)day);
+}
+
+/* A day comes back from its date. */
+static void check_day(int64_t day)
+{
+    Outcome known = date(day), back;
+    HOLD(known.number == (day < 0 ? 24 : day > 65535 ? 25 : 0));
+    if (known.number != 0)
+        return;
+    back = day_number((int64_t)known.words[0], (int64_t)known.words[1], (int64_t)known.words[2]);
+    HOLD(back.number == 0 && back.words[0] == (uint64_t)day);
+}
+
+/* 26 first, then 24, then 25. A pass of more months ends later. */
+static void check_last_day(int64_t first, int64_t months)
+{
+    Outcome last = last_day(first, months), next;
+    uint64_t refusal = months < 1 || months > 12 ? 26 : first < 0 ? 24 : first > 65535 ? 25 : 0;
+    HOLD(last.number == refusal || (refusal == 0 && last.number == 25));
+    if (refusal != 0)
+        return;
+    HOLD(last.number != 0 || (last.words[0] > (uint64_t)first && last.words[0] <= 65535));
+    if (months == 12)
+        return;
+    next = last_day(first, months + 1);
+    HOLD(next.number == 25 || (last.number == 0 && next.words[0] > last.words[0]));
+}
+
 /* ---- an input */
 
 static State state_of(uint8_t byte)
@@ -601,6 +678,7 @@ int LLVMFuzzerTestOneInput(const uint8_t *input, size_t size)
     enum { FLAGS, STATE, CUT, FROM, LENGTH, HEAD, RAW_LIST = 1, AT_FRONT = 2, STRETCHED = 4, BEHIND = 8, CUT_RUN = 16 };
     static const uint64_t edges[] = {0, 65535, 65536, LARGEST, LARGEST + 1, UINT64_MAX};
     Slice format, rest, list, data, run;
+    Numbers numbers;
     Outcome whole;
     if (size < HEAD || size > 4096)
         return 0;
@@ -627,5 +705,9 @@ int LLVMFuzzerTestOneInput(const uint8_t *input, size_t size)
     if ((input[FLAGS] & CUT_RUN) != 0)
         run.length -= lesser(run.length, input[CUT] % 4);
     check_tray(format, run);
+    numbers = numbers_of(rest.start, rest.length);
+    check_date(numbers.year, numbers.month, numbers.day);
+    check_day(numbers.number);
+    check_last_day(numbers.number, numbers.month);
     return 0;
 }

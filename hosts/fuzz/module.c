@@ -2,13 +2,14 @@
  * A fuzz target over the Lua module, for libFuzzer, with memory that can't be had. An input is
  *   - a byte each: the function; the float environment; the state or the start; the format's length;
  *   - the format;
- *   - the bytes of which values and data are made.
+ *   - the bytes of which values, data, days and dates are made.
  *
  * The function is called where 0, 1, 2 .. blocks of memory can be had, until these suffice. Each lack of memory must be
  * raised as Lua's error, and leave a writer as it was. Then what the function gives is held to the header's calls. All
  * memory is given back, and the float environment stays.
  */
 #include "../include/digribbon.h"
+#include "numbers.h"
 #include <lauxlib.h>
 #include <lua.h>
 #include <stdbool.h>
@@ -199,6 +200,14 @@ static void check_results(lua_State *L, int first)
     HOLD(lua_gettop(L) == first && (uint64_t)lua_tointeger(L, first) == expected.words[1]);
 }
 
+/* So many integers, the answer's words. */
+static void check_words(lua_State *L, int first, int words)
+{
+    HOLD(lua_gettop(L) == first + words - 1);
+    for (int i = 0; i < words; i++)
+        HOLD(lua_isinteger(L, first + i) && (uint64_t)lua_tointeger(L, first + i) == expected.words[i]);
+}
+
 static void check_record(lua_State *L, int first)
 {
     HOLD(lua_type(L, first) == LUA_TSTRING && lua_rawlen(L, first) == expected.words[3]);
@@ -232,16 +241,46 @@ static void check_refusal(lua_State *L, bool is_writing, uint64_t record)
 
 /* ---- an input */
 
-enum { PACK, PACKSIZE, UNPACK, WRITER, TRAY, FUNCTIONS };
+enum { PACK, PACKSIZE, UNPACK, WRITER, TRAY, DAY_NUMBER, DATE, LAST_DAY, FUNCTIONS };
 
 static lua_State *lua;
 static int module;
 static size_t memory_at_start;
 
+/* Pushes a number as an integer, or as the float that equals it. */
+static void push_integer(lua_State *L, int64_t number, bool as_float)
+{
+    if (as_float && number == (int32_t)number)
+        lua_pushnumber(L, (lua_Number)number);
+    else
+        lua_pushinteger(L, number);
+}
+
+/* Pushes the arguments of a function about days or dates, and works out what is expected. */
+static void prepare_dates(int function, Slice rest, bool as_float)
+{
+    Numbers numbers = numbers_of(rest.start, rest.length);
+    if (function == DAY_NUMBER) {
+        push_integer(lua, numbers.year, as_float);
+        push_integer(lua, numbers.month, as_float);
+        push_integer(lua, numbers.day, as_float);
+        expected.number = digribbon_day_number(numbers.year, numbers.month, numbers.day, expected.words);
+        return;
+    }
+    push_integer(lua, numbers.number, as_float);
+    if (function == DATE) {
+        expected.number = digribbon_date(numbers.number, expected.words);
+    } else {
+        push_integer(lua, numbers.month, as_float);
+        expected.number = digribbon_last_day(numbers.number, numbers.month, expected.words);
+    }
+}
+
 /* Pushes the function and its arguments, and works out what is expected. */
 static void prepare(int function, State from, int64_t start, Slice format, Slice rest)
 {
-    static const char *const names[] = {"pack", "packsize", "unpack", "writer", "pack_tray"};
+    static const char *const names[] = {"pack", "packsize", "unpack", "writer", "pack_tray", "day_number",
+                                        "date", "last_day"};
     lua_rawgeti(lua, LUA_REGISTRYINDEX, module);
     lua_getfield(lua, -1, names[function]);
     if (function == WRITER) {
@@ -253,6 +292,10 @@ static void prepare(int function, State from, int64_t start, Slice format, Slice
         lua_insert(lua, -2);
     }
     lua_remove(lua, 1);
+    if (function >= DAY_NUMBER) {
+        prepare_dates(function, rest, start % 2 != 0);
+        return;
+    }
     lua_pushlstring(lua, (const char *)format.start, format.length);
     if (function == PACKSIZE) {
         expected.number = digribbon_packsize(format.start, format.length, expected.words);
@@ -310,6 +353,8 @@ static void check(int function, int status, int first, const State *state, State
         HOLD((uint64_t)lua_tointeger(lua, first) == expected.words[0]);
     } else if (function == UNPACK) {
         check_results(lua, first);
+    } else if (function >= DAY_NUMBER) {
+        check_words(lua, first, function == DATE ? 3 : 1);
     } else {
         check_record(lua, first);
         HOLD(function != WRITER || ((uint64_t)lua_tointeger(lua, first + 1) == expected.words[4] &&

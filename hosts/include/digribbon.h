@@ -1,6 +1,6 @@
 /*
  * Digribbon: Lua's string.packsize, string.pack and string.unpack over lent memory, with continued writing and trays of
- * records.
+ * records; and validity dates as day numbers.
  *
  * The archive is for x86-64 Linux. Link it, and behind it the math library, which the remainder of a float under T
  * needs:
@@ -50,8 +50,8 @@
  * The version of header and archive, as text and as a number for #if: 10,000, 100 and 1 times its three numbers. The
  * last of these rises where something is added, the middle one where an answer changes.
  */
-#define DIGRIBBON_VERSION "0.1.1"
-#define DIGRIBBON_VERSION_NUMBER 101
+#define DIGRIBBON_VERSION "0.1.2"
+#define DIGRIBBON_VERSION_NUMBER 102
 
 #if SIZE_MAX < UINT64_MAX
 #error "Digribbon is for hosts with a size_t of 8 bytes."
@@ -59,8 +59,8 @@
 
 /*
  * Every refusal: its number, its name, who causes it, what it says. The first failing check decides; 21 comes first of
- * all and 22 last of all; in a tray 23 comes first, and 21 in its record's turn. For code about each of them, give a
- * macro of four arguments:
+ * all and 22 last of all; in a tray 23 comes first, and 21 in its record's turn; of days and dates the order is 26, 24,
+ * 25. For code about each of them, give a macro of four arguments:
  *
  *     #define SENTENCE(number, name, cause, sentence) case name: return sentence;
  *
@@ -93,7 +93,10 @@
     refusal(20, DIGRIBBON_TEXT_ABOVE_65535, "card data", "A text is longer than 65,535 bytes.") \
     refusal(21, DIGRIBBON_MALFORMED, "host program", "The value list is malformed, the data or the state's length is above 2^63-1, or the state's limit is no power of two of 1 to 16.") \
     refusal(22, DIGRIBBON_RESULT_TOO_LONG, "host program", "The result is longer than the lent buffer.") \
-    refusal(23, DIGRIBBON_DAMAGED_RUN, "host program", "The lengths of a run's lists don't end at its last byte.")
+    refusal(23, DIGRIBBON_DAMAGED_RUN, "host program", "The lengths of a run's lists don't end at its last byte.") \
+    refusal(24, DIGRIBBON_NO_SUCH_DATE, "supplier of values", "There is no such date, or its year is before 2000.") \
+    refusal(25, DIGRIBBON_DAY_TOO_LARGE, "supplier of values", "A day number is above 65,535.") \
+    refusal(26, DIGRIBBON_MONTHS_OUTSIDE, "supplier of values", "The months are outside 1 to 12.")
 
 /* The numbers by name: DIGRIBBON_UNKNOWN_OPTION is 1, and so on. */
 #define DIGRIBBON_NUMBER(number, name, cause, sentence) name = number,
@@ -245,6 +248,48 @@ uint64_t digribbon_unpack(const uint8_t *format, size_t format_len,
  * Passes a field by its length bytes, whatever its tag. Always returns 0.
  */
 uint64_t digribbon_list_after(const uint8_t *list, size_t list_len, uint64_t fields, uint64_t answer[1]);
+
+/*
+ * A day's number: how many days a date lies after 1 January 2000, in the Gregorian calendar. A number is at most
+ * 65,535, which is 6 June 2179, and so fits the two bytes of an I2 or H.
+ *
+ *     year       the year, from 2000 on
+ *     month      the month, 1 to 12
+ *     day        the day of the month, from 1 on
+ *     answer[0]  the day's number
+ *
+ * Refusals: 24 where there is no such date, or the year is before 2000, whatever the other numbers are; 25 for a date
+ * after 6 June 2179.
+ */
+uint64_t digribbon_day_number(int64_t year, int64_t month, int64_t day, uint64_t answer[1]);
+
+/*
+ * The date of a day's number. It is the one whose number this is: digribbon_day_number leads back, for each of the
+ * 65,536 days.
+ *
+ *     day        the day's number
+ *     answer[0]  the year
+ *     answer[1]  the month
+ *     answer[2]  the day of the month
+ *
+ * Refusals: 24 for a number below 0, whose day lies before 2000; 25 for one above 65,535.
+ */
+uint64_t digribbon_date(int64_t day, uint64_t answer[3]);
+
+/*
+ * The last valid day of a pass: the day before the same day of the month that many months on. If that month has no such
+ * day, its last day.
+ *
+ *     first      the number of the pass's first day
+ *     months     for how many months it is valid, 1 to 12
+ *     answer[0]  the number of its last day
+ *
+ * A pass of 1 month from 31 January 2024 (8796) ends on 29 February 2024 (8825), one from 29 January on 28 February.
+ *
+ * Refusals, in this order: 26 for months outside 1 to 12; 24 for a first day below 0; 25 for a first day above 65,535,
+ * or where the last day is above it.
+ */
+uint64_t digribbon_last_day(int64_t first, int64_t months, uint64_t answer[1]);
 
 #ifdef __cplusplus
 }

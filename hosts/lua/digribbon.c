@@ -1,5 +1,6 @@
 /*
- * The module "digribbon" for Lua 5.4 and later: pack, pack_tray, packsize, unpack, and a writer for continued writing.
+ * The module "digribbon" for Lua 5.4 and later: pack, pack_tray, packsize, unpack, and a writer for continued writing;
+ * day_number, date and last_day.
  *
  * Memory is the C stack's or a block of Lua's own, so an error that is raised here loses none. Whatever asks Lua for
  * memory can run finalizers, and so any code, that of the module included.
@@ -664,9 +665,55 @@ static int writer_state(lua_State *L)
     return 3;
 }
 
+/* The argument of day_number that a refusal is about: the first that is wrong whatever those behind it are. */
+static int refused_part_of_date(uint64_t number, lua_Integer year, lua_Integer month)
+{
+    uint64_t day;
+    if (number != DIGRIBBON_NO_SUCH_DATE || digribbon_day_number(year, 1, 1, &day) == number)
+        return 1;
+    return digribbon_day_number(year, month, 1, &day) == number ? 2 : 3;
+}
+
+/* day_number(year, month, day): the day's number */
+static int day_number(lua_State *L)
+{
+    lua_Integer year = luaL_checkinteger(L, 1), month = luaL_checkinteger(L, 2), day = luaL_checkinteger(L, 3);
+    uint64_t answer;
+    uint64_t number = digribbon_day_number(year, month, day, &answer);
+    if (number != 0)
+        return refuse(L, "day_number", number, (About){refused_part_of_date(number, year, month), 0, 0});
+    lua_pushinteger(L, (lua_Integer)answer);
+    return 1;
+}
+
+/* date(day): the year, the month and the day of the month of a day's number */
+static int date(lua_State *L)
+{
+    uint64_t answer[3];
+    uint64_t number = digribbon_date(luaL_checkinteger(L, 1), answer);
+    if (number != 0)
+        return refuse(L, "date", number, (About){1, 0, 0});
+    for (int i = 0; i < 3; i++)
+        lua_pushinteger(L, (lua_Integer)answer[i]);
+    return 3;
+}
+
+/* last_day(first, months): the number of a pass's last valid day */
+static int last_day(lua_State *L)
+{
+    lua_Integer first = luaL_checkinteger(L, 1), months = luaL_checkinteger(L, 2);
+    uint64_t answer;
+    uint64_t number = digribbon_last_day(first, months, &answer);
+    if (number != 0)
+        return refuse(L, "last_day", number, (About){number == DIGRIBBON_MONTHS_OUTSIDE ? 2 : 1, 0, 0});
+    lua_pushinteger(L, (lua_Integer)answer);
+    return 1;
+}
+
 static const luaL_Reg functions[] = {
     {"pack", pack},     {"pack_tray", pack_tray}, {"packsize", packsize},
-    {"unpack", unpack}, {"writer", writer},       {NULL, NULL}};
+    {"unpack", unpack}, {"writer", writer},       {"day_number", day_number},
+    {"date", date},     {"last_day", last_day},   {NULL, NULL}};
 
 static const luaL_Reg writer_methods[] = {{"pack", writer_pack}, {"state", writer_state}, {NULL, NULL}};
 

@@ -2,6 +2,7 @@
 local digribbon = require "digribbon"
 local testing = require "testing"
 local pack, pack_tray, packsize, unpack = digribbon.pack, digribbon.pack_tray, digribbon.packsize, digribbon.unpack
+local day_number, date, last_day = digribbon.day_number, digribbon.date, digribbon.last_day
 
 local passed = 0
 local function test(name, body)
@@ -111,24 +112,29 @@ test("pack_tray", function()
     end
 end)
 
-test("pack_tray: the examples of docs/FORMAT.md", function()
+-- What a call gives as docs/FORMAT.md shows it.
+local function shown(ok, first, ...)
+    if not ok then
+        return ("refused %d"):format(first.number) .. (first.record and (", record %d"):format(first.record) or "")
+    elseif type(first) == "number" then
+        return table.concat({ first, ... }, ", ")
+    end
+    local bytes = first:gsub(".", function(c) return (" %02X"):format(c:byte()) end)
+    return bytes == "" and "no bytes" or bytes:sub(2)
+end
+
+test("the examples of docs/FORMAT.md that stand between fences", function()
     local page <close> = assert(io.open("../../docs/FORMAT.md"))
-    local count = 0
+    local counts = { pack_tray = 0, day_number = 0, date = 0, last_day = 0 }
     for line in page:lines() do
-        local call, expected = line:match("^(pack_tray%(.*%)) +%-%-> (.*)$")
+        local call, name, expected = line:match("^(([%a_]+)%(.*%)) +%-%-> (.*)$")
         if call then
-            local ok, given = pcall(assert(load("return " .. call, call, "t", digribbon)))
-            if ok then
-                given = #given == 0 and "no bytes" or given:gsub(".", function(c) return ("%02X "):format(c:byte()) end)
-                given = given:gsub(" $", "")
-            else
-                given = ("refused %d, record %d"):format(given.number, given.record)
-            end
-            assert(given == expected, call)
-            count = count + 1
+            local given = shown(pcall(assert(load("return " .. call, call, "t", digribbon))))
+            assert(given == expected, ("%s gives %s"):format(call, given))
+            counts[name] = counts[name] + 1
         end
     end
-    assert(count == 5, count)
+    same({ 5, 11, 5, 11 }, counts.pack_tray, counts.day_number, counts.date, counts.last_day)
 end)
 
 test("pack_tray: the values of a table go by n, else by its length", function()
@@ -144,7 +150,90 @@ test("pack_tray: the values of a table go by n, else by its length", function()
     same({ "" }, pack_tray("b", proxy))
 end)
 
+---- dates
+
+local function month_length(year, month)
+    local is_leap = year % 4 == 0 and (year % 100 ~= 0 or year % 400 == 0)
+    return month == 2 and is_leap and 29 or ({ 31, 28, 31, 30, 31, 30, 31, 31, 30, 31, 30, 31 })[month]
+end
+
+test("every day there and back", function()
+    local year, month, day = 2000, 1, 1
+    for number = 0, 65535 do
+        same({ number }, day_number(year, month, day))
+        same({ year, month, day }, date(number))
+        day = day + 1
+        if day > month_length(year, month) then month, day = month + 1, 1 end
+        if month > 12 then year, month = year + 1, 1 end
+    end
+    same({ 2179, 6, 7 }, year, month, day)
+end)
+
+-- The first day's number of each month, counted up from January 2000 on, which is month 0.
+local function count_months()
+    local starts = { [0] = 0 }
+    for month = 0, 180 * 12 + 12 do
+        starts[month + 1] = starts[month] + month_length(2000 + month // 12, month % 12 + 1)
+    end
+    return starts
+end
+
+test("last days are as counted by months", function()
+    local starts, late = count_months(), 0
+    for first = 0, 65535 do
+        local year, month, day = date(first)
+        local months = first % 12 + 1
+        local end_month = (year - 2000) * 12 + month - 1 + months
+        local start, next_start = starts[end_month], starts[end_month + 1]
+        local last = day <= next_start - start and start + day - 1 - 1 or next_start - 1
+        if last <= 65535 then
+            same({ last }, last_day(first, months))
+        else
+            refused(25, last_day, first, months)
+            late = late + 1
+        end
+    end
+    assert(late > 100, late)
+end)
+
+test("dates: what is taken for a number", function()
+    same({ 8796 }, day_number(2024.0, 1.0, 31.0))
+    same({ 2024, 1, 31 }, date(8796.0))
+    same({ 8825 }, last_day(8796.0, "1"))
+    same({ 8796 }, day_number(2024, 1, 31, "ignored"))
+    failed("bad argument #2 to 'digribbon.day_number' (number has no integer representation)", day_number, 2024, 1.5, 31)
+    failed("bad argument #3 to 'digribbon.day_number' (number expected, got no value)", day_number, 2024, 1)
+    failed("bad argument #1 to 'digribbon.date' (number expected, got nil)", date, nil)
+    failed("bad argument #1 to 'digribbon.date' (number has no integer representation)", date, 2.0 ^ 63)
+    failed("bad argument #1 to 'digribbon.last_day' (number expected, got string)", last_day, "first", {})
+    failed("bad argument #2 to 'digribbon.last_day' (number expected, got table)", last_day, 0, {})
+end)
+
 ---- refusals
+
+test("every refusal of dates, in the order 26, 24, 25", function()
+    local least, greatest = math.mininteger, math.maxinteger
+    for _, months in ipairs { least, -1, 0, 13, (1 << 32) + 1, greatest } do
+        for _, first in ipairs { least, -1, 0, 65535, 65536, greatest } do refused(26, last_day, first, months) end
+    end
+    for _, day in ipairs { least, -1 } do
+        refused(24, date, day)
+        refused(24, last_day, day, 12)
+    end
+    for _, day in ipairs { 65536, (1 << 32) + 1, greatest } do
+        refused(25, date, day)
+        refused(25, last_day, day, 1)
+    end
+    for _, other in ipairs { least, -1, 0, 2000, greatest } do
+        refused(24, day_number, other, 13, 1)
+        refused(24, day_number, other, 1, 0)
+        refused(24, day_number, 1999, other, other)
+        refused(24, day_number, 2024, 2, other)
+    end
+    refused(24, day_number, greatest, 2, 29)
+    refused(25, day_number, greatest, 2, 28)
+    refused(25, day_number, greatest - 3, 2, 29)
+end)
 
 test("every refusal of formats, values and data", function()
     local formats = { "q", "c18446744073709551616", "i17", "!17", "!3", "!4i3", "Xz", "c", "c9223372036854775807b", "z" }
@@ -180,6 +269,9 @@ test("a refusal says number, sentence, cause, value and place", function()
     assert(refusal.cause == "profile author" and refusal.value == nil)
     assert(refused(17, unpack, "b", "").cause == "card data")
     assert(refused(21, digribbon.writer, "<", 3).cause == "host program")
+    refusal = refused(26, last_day, 0, 0)
+    assert(refusal.cause == "supplier of values" and refusal.value == nil and refusal.record == nil)
+    assert(tostring(refusal) == "bad argument #2 to 'last_day' (refusal 26: The months are outside 1 to 12.)")
 end)
 
 test("a refusal names its argument", function()
@@ -199,6 +291,16 @@ test("a refusal names its argument", function()
     about(3, "unpack", unpack, "b", "A", 3)
     about(2, "writer", digribbon.writer, "<", 5)
     about(3, "writer", digribbon.writer, "<", 4, -1)
+    about(1, "day_number", day_number, 1999, 13, 0)
+    about(2, "day_number", day_number, 2024, 13, 0)
+    about(2, "day_number", day_number, 2300, 0, 0)
+    about(3, "day_number", day_number, 2024, 2, 30)
+    about(3, "day_number", day_number, 2300, 2, 30)
+    about(1, "day_number", day_number, 2300, 1, 1)
+    about(1, "date", date, 65536)
+    about(1, "last_day", last_day, -1, 1)
+    about(1, "last_day", last_day, 65535, 1)
+    about(2, "last_day", last_day, -1, 13)
     local writer = digribbon.writer()
     about(3, "pack", function() writer:pack("bbi1", 1, 2 .. "") end)
     about(4, "pack", writer.pack, writer, "bbi1", 1, 2 .. "")
@@ -333,7 +435,7 @@ test("pack_tray: a finalizer may change the tables", function()
     local pause, multiplier = collectgarbage("setpause", 0), collectgarbage("setstepmul", 1000)
     collectgarbage() -- so that the pause counts from now on
     arm()
-    for i = 1, 500 do
+    for i = 1, 1000 do
         lists = { { ("A"):rep(i) }, { "" }, { ("A"):rep(900) } }
         local ok, tray = pcall(pack_tray, i % 2 == 0 and "z" or "z c2000 x", lists)
         if ok then
@@ -567,7 +669,9 @@ test("the version is that of the header and of the crate", function()
         return text:read("a"):match(pattern)
     end
     same({ found("../include/digribbon.h", '#define DIGRIBBON_VERSION "([^"]*)"') }, digribbon._VERSION)
-    same({ found("../rust/Cargo.toml", '\nversion = "([^"]*)"') }, digribbon._VERSION)
+    for _, file in ipairs { "../rust/Cargo.toml", "../rust/Cargo.lock", "../../compare/Cargo.lock" } do
+        same({ found(file, '\nname = "digribbon"\nversion = "([^"]*)"') }, digribbon._VERSION)
+    end
 end)
 
 ---- profiles
@@ -676,6 +780,15 @@ test("profile: a tray of passes", function()
     assert(not ok and refusal.number == 13 and refusal.record == 3 and refusal.value == 2)
     table.remove(passes, refusal.record)
     same({ "\0\1\0\10\0\0\2\0\20\1" }, pack_tray(">I2I2B", passes))
+end)
+
+test("profile: a pass of a month", function()
+    local first = day_number(2024, 1, 31)
+    local pass = pack(">I2 I2 c6", first, last_day(first, 1), "ANNA")
+    local _, last, holder = unpack(">I2 I2 c6", pass)
+    same({ 2024, 2, 29 }, date(last))
+    same({ "ANNA\0\0" }, holder)
+    assert(day_number(2024, 3, 1) > last)
 end)
 
 test("profile: in a coroutine", function()

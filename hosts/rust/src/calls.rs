@@ -44,6 +44,9 @@ unsafe extern "C" {
         answer: &mut [u64; 2],
     ) -> u64;
     fn digribbon_list_after(list: *const u8, list_len: usize, fields: u64, answer: &mut [u64; 1]) -> u64;
+    fn digribbon_day_number(year: i64, month: i64, day: i64, answer: &mut [u64; 1]) -> u64;
+    fn digribbon_date(day: i64, answer: &mut [u64; 3]) -> u64;
+    fn digribbon_last_day(first: i64, months: i64, answer: &mut [u64; 1]) -> u64;
 }
 
 // SAFETY, for every call below: a slice is lent as its pointer, which is never null, and its length, which is at most
@@ -137,6 +140,26 @@ pub(crate) fn list_after(list: &[u8], fields: usize) -> usize {
     #[cfg(test)]
     walked::add(&list[..offset as usize]);
     offset as usize
+}
+
+/// A date's day number, which is at most 65,535.
+pub(crate) fn day_number(year: i64, month: i64, day: i64) -> Result<u16, Refusal> {
+    answered(|answer| unsafe { digribbon_day_number(year, month, day, answer) }).map(|[number]| number as u16)
+}
+
+/// The year, the month and the day of the month of a day number.
+pub(crate) fn date(day: i64) -> Result<[u64; 3], Refusal> {
+    answered(|answer| unsafe { digribbon_date(day, answer) })
+}
+
+/// The same of a number that is known to be a day's.
+pub(crate) fn date_of_day(day: u16) -> [u64; 3] {
+    date(day.into()).expect("a number of 0 to 65,535 is never refused")
+}
+
+/// The day number of a pass's last valid day, which is at most 65,535.
+pub(crate) fn last_day(first: i64, months: i64) -> Result<u16, Refusal> {
+    answered(|answer| unsafe { digribbon_last_day(first, months, answer) }).map(|[number]| number as u16)
 }
 
 fn answered<const N: usize>(call: impl FnOnce(&mut [u64; N]) -> u64) -> Result<[u64; N], Refusal> {

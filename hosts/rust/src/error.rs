@@ -92,6 +92,9 @@ refusals! {
     21 Malformed Host "The value list is malformed, the data or the state's length is above 2^63-1, or the state's limit is no power of two of 1 to 16."
     22 ResultTooLong Host "The result is longer than the lent buffer."
     23 DamagedRun Host "The lengths of a run's lists don't end at its last byte."
+    24 NoSuchDate Supplier "There is no such date, or its year is before 2000."
+    25 DayTooLarge Supplier "A day number is above 65,535."
+    26 MonthsOutside Supplier "The months are outside 1 to 12."
 }
 
 impl Refusal {

@@ -15,6 +15,21 @@
 //! # Ok::<(), Box<dyn std::error::Error>>(())
 //! ```
 //!
+//! # Validity dates
+//!
+//! Passes store a [`Day`] in two bytes, as the number of days since 1 January 2000. A [`Date`] gives its day and a day its
+//! date, and [`Day::last_day`] is the last valid day of a pass of 1 to 12 months.
+//!
+//! ```
+//! use digribbon::Date;
+//!
+//! let first = Date::new(2024, 1, 31)?.day();
+//! let last = first.last_day(1)?;
+//! assert_eq!((first.number(), last.number()), (8796, 8825));
+//! assert_eq!(last.date().to_string(), "2024-02-29");
+//! # Ok::<(), digribbon::Error>(())
+//! ```
+//!
 //! # Refusals
 //!
 //! A call that is refused changes nothing and says why by an [`Error`]: a [`Refusal`] with its number, a sentence and
@@ -42,6 +57,7 @@
 compile_error!("Digribbon is for hosts with pointers of 64 bits.");
 
 mod calls;
+mod dates;
 mod error;
 mod reading;
 mod room;
@@ -50,6 +66,7 @@ mod values;
 mod writer;
 mod writing;
 
+pub use dates::{Date, Day};
 pub use error::{Cause, Error, Refusal};
 pub use tray::TrayError;
 pub use values::{Iter, TextTooLong, Value, ValueList, Values};

@@ -1,8 +1,8 @@
 //! What Rust programs expect of the crate's types and functions.
 
 use digribbon::{
-    Cause, Error, Iter, Order, Part, Refusal, State, TextTooLong, TrayError, Value, ValueList, Values, Writer, pack,
-    packsize,
+    Cause, Date, Day, Error, Iter, Order, Part, Refusal, State, TextTooLong, TrayError, Value, ValueList, Values,
+    Writer, pack, packsize,
 };
 use std::borrow::{Borrow, Cow};
 use std::collections::HashMap;
@@ -95,11 +95,15 @@ fn errors_equal_their_refusal() {
 fn types_have_the_usual_traits() {
     fn has<T: Debug + Clone + Send + Sync + Unpin>() {}
     fn has_equality<T: Eq + Hash>() {}
+    fn has_order<T: Ord + Copy>() {}
     fn is_error<T: std::error::Error + Copy + Eq + 'static>() {}
     has::<(Value, ValueList, Iter, Writer, State, Order, Part)>();
     has::<(Error, TrayError, Refusal, Cause, TextTooLong)>();
     has_equality::<(ValueList, State, Order, Error, TrayError, Refusal, Cause, TextTooLong)>();
     has_equality::<&Values>();
+    has::<(Date, Day)>();
+    has_equality::<(Date, Day)>();
+    has_order::<(Date, Day)>();
     is_error::<Error>();
     is_error::<TrayError>();
     is_error::<TextTooLong>();

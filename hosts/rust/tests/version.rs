@@ -1,5 +1,5 @@
-//! The versions of the crate, of ../include/digribbon.h and of CHANGELOG.md are the same. (The Lua module takes the
-//! header's, and its tests look.)
+//! The versions of the crate, in every Cargo.lock that names it, of ../include/digribbon.h and of CHANGELOG.md are the
+//! same. (The Lua module takes the header's, and its tests look.)
 
 use std::fs;
 use std::path::Path;
@@ -17,4 +17,7 @@ fn versions_are_the_same() {
     let version = env!("CARGO_PKG_VERSION");
     assert_eq!(between("../include/digribbon.h", "#define DIGRIBBON_VERSION \"", "\""), version);
     assert_eq!(between("../../CHANGELOG.md", "\n## ", "\n"), version);
+    for lock in ["Cargo.lock", "../../compare/Cargo.lock"] {
+        assert_eq!(between(lock, "name = \"digribbon\"\nversion = \"", "\""), version, "{lock}");
+    }
 }
