@@ -1,6 +1,8 @@
-//! What a call costs, ours beside the original and Lua 5.4: instructions and time, as tables and as plots.
+//! What a call costs, ours beside the original and Lua 5.4: instructions and time, as tables and as plots. Calls about dates have
+//! other peers.
 
 mod count;
+mod dates;
 mod lua;
 mod parts;
 mod plot;
@@ -12,6 +14,7 @@ mod workloads;
 use crate::lua::Lua;
 use crate::page;
 use crate::value::Bytes;
+use dates::Call;
 use std::fs;
 use std::path::Path;
 use std::process::ExitCode;
@@ -60,6 +63,12 @@ struct TrayRow {
     nanoseconds: TrayCosts,
 }
 
+/// What a call about dates costs each side.
+struct DatesRow {
+    instructions: [f64; 4],
+    nanoseconds: [f64; 4],
+}
+
 struct Report {
     /// The workloads with goals, then those that grow.
     goals: Vec<Row>,
@@ -70,6 +79,8 @@ struct Report {
     trays: Vec<TrayRow>,
     /// Instructions of all trays, and of as many single calls.
     growing_trays: Vec<(Trays, [f64; 2])>,
+    /// For each call about dates.
+    dates: Vec<DatesRow>,
     stand_ins: Vec<(&'static str, f64)>,
     version: String,
 }
@@ -123,6 +134,9 @@ fn report() -> Result<Report, String> {
     if let Some(trays) = trays::all().iter().find(|trays| !trays.agrees()) {
         return Err(format!("a {} gives another record than the original", trays.title()));
     }
+    if !dates::agree() {
+        return Err("ours and the peers answer differently about dates".to_string());
+    }
     let version = Lua::version()?;
     let scratch = std::env::temp_dir().join(format!("digribbon-bench-{}", std::process::id()));
     fs::create_dir_all(&scratch).map_err(|why| format!("no folder for the counts can be made: {why}"))?;
@@ -151,7 +165,8 @@ fn measured(goals: Vec<Workload>, growth: Vec<Workload>, version: String, scratc
     let rows = counted().filter(|(trays, _)| trays.has_goal()).map(|(trays, counts)| tray_row(trays, counts, scratch));
     let trays = rows.collect::<Result<_, _>>()?;
     let growing_trays = counted().map(|(trays, counts)| (trays, [counts.tray, counts.each])).collect();
-    Ok(Report { goals, growth, parts, trays, growing_trays, stand_ins: counts.stand_ins, version })
+    let dates = Call::ALL.into_iter().zip(counts.dates).map(dates_row).collect();
+    Ok(Report { goals, growth, parts, trays, growing_trays, dates, stand_ins: counts.stand_ins, version })
 }
 
 fn tray_row(trays: Trays, counts: &TrayCounts, scratch: &Path) -> Result<TrayRow, String> {
@@ -166,6 +181,11 @@ fn tray_row(trays: Trays, counts: &TrayCounts, scratch: &Path) -> Result<TrayRow
     let [tray, each, original] = time::times_of_tray(&trays);
     let nanoseconds = TrayCosts { tray, each, original, lua: lua::time(&single, scratch)? * count };
     Ok(TrayRow { trays, instructions, nanoseconds })
+}
+
+fn dates_row((call, instructions): (Call, [f64; 4])) -> DatesRow {
+    eprintln!("bench: {}", call.name());
+    DatesRow { instructions, nanoseconds: time::times_of_dates(call) }
 }
 
 fn publish(report: &Report, folder: Option<&Path>) -> Result<(), String> {

@@ -2,6 +2,7 @@
 
 mod bench;
 mod beside;
+mod dates;
 mod domain;
 mod r#gen;
 mod items;
@@ -46,6 +47,7 @@ fn main() -> ExitCode {
         "write" => (&[("seed", 1), ("cases", 6_000_000), ("cap", 100_000)], 0..=0),
         "read" => (&[("seed", 1), ("cases", 6_000_000)], 0..=0),
         "tray" => (&[("seed", 1), ("cases", 1_000_000), ("length", 4), ("cap", 100_000)], 0..=0),
+        "dates" => (&[("seed", 1), ("cases", 1_000_000)], 0..=0),
         "properties" => (&[("seed", 1), ("cases", 1_000_000)], 0..=0),
         "record" => (&[], 1..=1),
         "bench" => (&[], 0..=1),
@@ -90,6 +92,7 @@ fn run(command: &str, arguments: &Arguments) -> ExitCode {
         ("write", _) => write::run(number("seed"), number("cases"), number("cap")),
         ("read", _) => read::run(number("seed"), number("cases")),
         ("tray", _) => tray::run(number("seed"), number("cases"), number("length") as u32, number("cap")),
+        ("dates", _) => dates::run(number("seed"), number("cases")).finish(),
         ("properties", _) => properties::run(number("seed"), number("cases")).finish(),
         ("record", Some(directory)) => record::run(directory),
         ("bench-counted", _) => {

@@ -48,6 +48,9 @@ unsafe extern "C" {
         answer: *mut u64,
     ) -> u64;
     fn digribbon_list_after(list: *const u8, list_length: usize, fields: u64, answer: *mut u64) -> u64;
+    fn digribbon_day_number(year: i64, month: i64, day: i64, answer: *mut u64) -> u64;
+    fn digribbon_date(day: i64, answer: *mut u64) -> u64;
+    fn digribbon_last_day(first: i64, months: i64, answer: *mut u64) -> u64;
 }
 
 /// Instead of a refusal's number: the call refused and changed its answer all the same.
@@ -173,4 +176,29 @@ pub fn unpack(format: &[u8], data: &[u8], start: i64, list: &mut [u8]) -> Result
 pub fn list_after(list: &[u8], fields: u64) -> Result<u64, u64> {
     answered::<1>(|answer| unsafe { digribbon_list_after(list.as_ptr(), list.len(), fields, answer) })
         .map(|[offset]| offset)
+}
+
+/// The calls about dates, ours or those of a peer. An answer has 1, 3 and 1 places.
+#[derive(Clone, Copy)]
+pub struct Dates {
+    pub day_number: unsafe extern "C" fn(year: i64, month: i64, day: i64, answer: *mut u64) -> u64,
+    pub date: unsafe extern "C" fn(day: i64, answer: *mut u64) -> u64,
+    pub last_day: unsafe extern "C" fn(first: i64, months: i64, answer: *mut u64) -> u64,
+}
+
+pub const DATES: Dates = Dates { day_number: digribbon_day_number, date: digribbon_date, last_day: digribbon_last_day };
+
+impl Dates {
+    pub fn day_number(&self, [year, month, day]: [i64; 3]) -> Result<u64, u64> {
+        answered::<1>(|answer| unsafe { (self.day_number)(year, month, day, answer) }).map(|[number]| number)
+    }
+
+    /// Year, month and day of the month.
+    pub fn date(&self, day: i64) -> Result<[u64; 3], u64> {
+        answered::<3>(|answer| unsafe { (self.date)(day, answer) })
+    }
+
+    pub fn last_day(&self, first: i64, months: i64) -> Result<u64, u64> {
+        answered::<1>(|answer| unsafe { (self.last_day)(first, months, answer) }).map(|[number]| number)
+    }
 }

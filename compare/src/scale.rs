@@ -1,6 +1,7 @@
 //! All calls at scale: each case goes to ours, to the original and to Lua, and the summary into a page.
 
 use crate::beside::{Beside, ask_lua};
+use crate::dates;
 use crate::r#gen::Random;
 use crate::lua::Lua;
 use crate::measure;
@@ -70,6 +71,7 @@ fn compare_all(numbers: &Numbers, module: bool) -> Result<(Vec<Tally>, String), 
 
     others.lua.finish()?;
     tallies.push(tray::against_single_calls(seed, cases, length));
+    tallies.push(dates::run(seed, cases));
     tallies.push(properties::run(seed, cases));
     Ok((tallies, version))
 }

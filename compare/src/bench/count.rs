@@ -10,12 +10,14 @@
 //!
 //! Callgrind counts `rep movsb` as an instruction for each byte, so the C library is told to copy by vectors.
 
+use super::dates::{self, Call, Work};
 use super::parts::{self, Way};
 use super::trays::{self, Trays};
 use super::workloads::{Workload, growing, with_goals};
 use crate::r#gen::Random;
 use crate::original::lua_vm::LuaState;
 use crate::original::{LuaValue, Original};
+use crate::ours::Dates;
 use crate::value::Value;
 use std::fs;
 use std::hint::black_box;
@@ -54,6 +56,7 @@ fn count<S>(repeats: u64, state: &mut S, mut call: impl FnMut(&mut S), mut reset
 }
 
 const REPEATS: u64 = 64;
+const DATES: u64 = dates::INPUTS as u64;
 
 fn repeats(workload: &Workload) -> u64 {
     if workload.is_large() { 2 } else { REPEATS }
@@ -79,7 +82,7 @@ impl Heap {
 }
 
 /// The counted program: two empty calls, then each workload by the original and by ours, then records in parts, then trays,
-/// then the stand-ins.
+/// then dates, then the stand-ins.
 pub fn counted() {
     count(REPEATS, &mut (), |()| (), |()| ());
     count_ours(REPEATS, &mut || ());
@@ -97,6 +100,10 @@ pub fn counted() {
         }
         count_ours(tray_repeats(&trays), &mut trays.ours_each());
         count_ours(tray_repeats(&trays), &mut trays.ours());
+    }
+    for call in Call::ALL {
+        count_dates(call, dates::EMPTY);
+        dates::SIDES.into_iter().for_each(|(_, side)| count_dates(call, side));
     }
     STAND_INS.iter().for_each(|(_, stand_in)| count_stand_in(*stand_in));
 }
@@ -119,6 +126,16 @@ fn tray_repeats(trays: &Trays) -> u64 {
 
 fn count_ours(repeats: u64, mut ours: &mut dyn FnMut()) {
     count(repeats, &mut ours, |ours| black_box(ours)(), |_| ());
+}
+
+/// Each input once.
+fn count_dates(call: Call, side: Dates) {
+    let mut work = Work::new(side);
+    match call {
+        Call::DayNumber => count(DATES, &mut work, |work| work.call(Call::DayNumber), Work::next),
+        Call::Date => count(DATES, &mut work, |work| work.call(Call::Date), Work::next),
+        Call::LastDay => count(DATES, &mut work, |work| work.call(Call::LastDay), Work::next),
+    }
 }
 
 type StandIn = fn(&mut LuaState);
@@ -163,6 +180,8 @@ pub struct Counts {
     pub parts: Vec<[f64; 3]>,
     /// For each of the trays.
     pub trays: Vec<TrayCounts>,
+    /// For each call about dates, of each side.
+    pub dates: Vec<[f64; 4]>,
     /// The stand-ins' parts by name, of one use.
     pub stand_ins: Vec<(&'static str, f64)>,
 }
@@ -181,7 +200,7 @@ pub fn counts<'a>(workloads: impl Iterator<Item = &'a Workload>, folder: &Path) 
     let mut next = || files.next().ok_or_else(|| "valgrind gave too few counts.".to_string());
     let mut per_call = |repeats: u64| next().map(|count| count as f64 / repeats as f64);
     let (empty, empty_ours) = (per_call(REPEATS)?, per_call(REPEATS)?);
-    let mut all = Counts { workloads: vec![], parts: vec![], trays: vec![], stand_ins: vec![] };
+    let mut all = Counts { workloads: vec![], parts: vec![], trays: vec![], dates: vec![], stand_ins: vec![] };
     for workload in workloads {
         let repeats = repeats(workload);
         all.workloads.push([per_call(repeats)? - empty, per_call(repeats)? - empty_ours]);
@@ -194,6 +213,11 @@ pub fn counts<'a>(workloads: impl Iterator<Item = &'a Workload>, folder: &Path) 
         let original = if trays.has_goal() { Some((per_call(count)? - empty) * count as f64) } else { None };
         let [each, tray] = [per_call(repeats)?, per_call(repeats)?].map(|count| count - empty_ours);
         all.trays.push(TrayCounts { tray, each, original });
+    }
+    for _ in Call::ALL {
+        let empty = per_call(DATES)?;
+        let sides = [per_call(DATES)?, per_call(DATES)?, per_call(DATES)?, per_call(DATES)?];
+        all.dates.push(sides.map(|count| count - empty));
     }
     for (name, _) in STAND_INS {
         all.stand_ins.push((name, (per_call(REPEATS)? - empty) / TIMES as f64));

@@ -1,10 +1,11 @@
 //! The costs as tables of a page.
 
+use super::dates::{self, APART, Call, INPUTS, SIDES};
 use super::parts::{self, Way};
 use super::time::{LEAST, SAMPLES};
 use super::trays::{GOAL, RECORDS, Trays};
 use super::workloads::{COUNTS, Goal, Kind};
-use super::{Costs, Report, Row, TrayCosts, TrayRow};
+use super::{Costs, DatesRow, Report, Row, TrayCosts, TrayRow};
 use crate::page;
 use crate::report::grouped;
 use std::fmt::Write;
@@ -18,6 +19,7 @@ pub fn tables(report: &Report) -> String {
     in_parts(&mut text, &report.parts);
     trays(&mut text, &report.trays);
     growing_trays(&mut text, &report.growing_trays);
+    dates(&mut text, &report.dates);
     text
 }
 
@@ -127,6 +129,46 @@ fn growing_trays(text: &mut String, rows: &[(Trays, [f64; 2])]) {
         let costs = costs.map(|cost| format!("{} | {}", grouped(cost.round() as u64), of_each(cost))).join(" | ");
         let _ = writeln!(text, "| `{}` | {} | {costs} |", trays.format, grouped(trays.count as u64));
     }
+}
+
+/// For each call a row of instructions and one of time.
+fn dates(text: &mut String, rows: &[DatesRow]) {
+    let names = SIDES.map(|(name, _)| name).join(" | ");
+    let _ = write!(
+        text,
+        "\nCalls about dates, the mean over {} inputs, each {APART} days apart; a ratio in bold misses its goal:\n\n\
+         | call, cost | {names} | ours to the bare arithmetic | goal | to that with checks | to the C library |\n\
+         |---|---|---|---|---|---|---|---|---|\n",
+        grouped(INPUTS as u64)
+    );
+    for (call, row) in Call::ALL.into_iter().zip(rows) {
+        dates_line(text, call, "instructions", &row.instructions, Some(dates::GOAL), small_count);
+        dates_line(text, call, "time", &row.nanoseconds, None, |time| format!("{time:.1} ns"));
+    }
+}
+
+fn dates_line(
+    text: &mut String,
+    call: Call,
+    what: &str,
+    costs: &[f64; 4],
+    goal: Option<f64>,
+    shown: impl Fn(f64) -> String,
+) {
+    let [ours, bare, checked, library] = *costs;
+    let ratio = ours / bare;
+    let mark = if goal.is_some_and(|goal| ratio > goal) { "**" } else { "" };
+    let goal = goal.map_or(String::new(), |goal| format!("{goal:?}"));
+    let costs = costs.map(shown).join(" | ");
+    let (checked, library) = (ours / checked, ours / library);
+    let name = call.name();
+    let _ =
+        writeln!(text, "| {name}, {what} | {costs} | {mark}{ratio:.2}{mark} | {goal} | {checked:.2} | {library:.2} |");
+}
+
+/// A mean, with a digit behind the point where it is small.
+fn small_count(count: f64) -> String {
+    if count < 100.0 { format!("{count:.1}") } else { grouped(count.round() as u64) }
 }
 
 /// Three digits or so, with a unit.

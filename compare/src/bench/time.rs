@@ -1,10 +1,11 @@
-//! Time per call of ours and of the original, and of trays beside single calls: processor time, by the clock that Lua's
-//! os.clock reads too.
+//! Time per call of ours and of the original, of trays beside single calls, and of calls about dates beside their peers:
+//! processor time, by the clock that Lua's os.clock reads too.
 //!
 //! A sample is as many calls as take a millisecond, at least one. Samples of each side take turns; the least of each counts.
 //! Speed depends on where in memory buffers lie, so they are made anew at other places some times. Of the original,
 //! freeing its results is part of a call.
 
+use super::dates::{Call, INPUTS, SIDES, Work};
 use super::trays::Trays;
 use super::workloads::Workload;
 use std::hint::black_box;
@@ -71,6 +72,19 @@ pub fn times_of_tray(trays: &Trays) -> [f64; 3] {
         });
     }
     least
+}
+
+/// Nanoseconds of a call about dates, by each side: the mean over the inputs.
+pub fn times_of_dates(call: Call) -> [f64; 4] {
+    let mut least = [f64::INFINITY; 4];
+    for _ in 0..PLACES {
+        let [mut ours, mut bare, mut checked, mut library] = SIDES.map(|(_, side)| {
+            let mut work = Work::new(side);
+            move || work.each(call)
+        });
+        sample_in_turns([&mut ours, &mut bare, &mut checked, &mut library], &mut least);
+    }
+    least.map(|nanoseconds| nanoseconds / INPUTS as f64)
 }
 
 fn sample_in_turns<const N: usize>(mut sides: [&mut dyn FnMut(); N], least: &mut [f64; N]) {
