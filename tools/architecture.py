@@ -5,7 +5,7 @@ usage: tools/architecture.py > docs/architecture.svg
 """
 from xml.sax.saxutils import escape
 
-WIDTH, HEIGHT = 980, 576
+WIDTH, HEIGHT = 980, 666
 
 STYLE = """
 text { font-family: sans-serif; font-size: 12px; fill: #1f2328 }
@@ -40,9 +40,11 @@ BOXES = [
         "src/: the types that", "specs and code share", "",
         "Each contract to the", "right says that the", "answer and the lent", "bytes are what a",
         "definition here gives."]),
-    ("definition", 20, 338, 146, 218, "laws", [
+    ("definition", 20, 338, 146, 166, "laws", [
         "specs/: the claims,", "that measuring, writing", "and reading agree", "",
         "proofs/: their proofs,", "and laws that the", "code's proofs cite"]),
+    ("definition", 20, 524, 146, 122, "calendar", [
+        "specs/: dates, day", "numbers, last days, and", "what is claimed of them", "", "proofs/: their proofs"]),
     ("proved", 186, 146, 130, 260, "format", [
         "hands out one item", "after the other, by", "a cursor by value"]),
     ("leaf", 198, 226, 106, 48, "options", ["the option table"]),
@@ -55,7 +57,8 @@ BOXES = [
     ("proved", 526, 146, 130, 68, "measure, bound", ["string_packsize,", "list_bound"]),
     ("proved", 526, 236, 130, 78, "write, tray", ["string_pack,", "pack_continued;", "pack_tray"]),
     ("proved", 526, 326, 130, 68, "read", ["string_unpack;", "read_pass"]),
-    ("proved", 696, 146, 110, 248, "digribbon", [
+    ("proved", 526, 416, 130, 68, "dates", ["day_number, date_of,", "last_day"]),
+    ("proved", 696, 146, 110, 338, "digribbon", [
         "the calls", "under C names:", "0, or a refusal's", "number"]),
     ("host", 846, 146, 114, 68, "C", ["header, example"]),
     ("host", 846, 236, 114, 68, "Rust", ["crate, and a", "pack.rs for lua-rs"]),
@@ -63,12 +66,12 @@ BOXES = [
     ("proved", 376, 60, 180, 58, "agreement", ["calls made in turn, by", "measure, write and read"]),
     ("proved", 696, 60, 110, 58, "line", ["the line printed"]),
     ("proved", 846, 60, 114, 58, "packsize", ["the program"]),
-    ("leaf", 186, 452, 118, 104, "align", ["the state, padding;", "for format,", "measure, plan,", "fetch, write, read"]),
-    ("leaf", 318, 452, 118, 104, "values, fields", ["the value list, and", "runs of them; for", "numbers, word, plan,", "write, tray, read"]),
-    ("leaf", 450, 452, 118, 104, "numbers", ["a value as integer", "or as number;", "for word"]),
-    ("leaf", 582, 452, 118, 104, "single", ["f64 to f32, and", "back; for word,", "numbers, decode"]),
-    ("leaf", 714, 452, 118, 104, "load, store", ["integers as bytes,", "with words;", "for values, fields,", "decode, emit"]),
-    ("leaf", 846, 452, 114, 104, "position", ["starts, offsets,", "positions; for", "fetch, read"]),
+    ("leaf", 186, 542, 118, 104, "align", ["the state, padding;", "for format,", "measure, plan,", "fetch, write, read"]),
+    ("leaf", 318, 542, 118, 104, "values, fields", ["the value list, and", "runs of them; for", "numbers, word, plan,", "write, tray, read"]),
+    ("leaf", 450, 542, 118, 104, "numbers", ["a value as integer", "or as number;", "for word"]),
+    ("leaf", 582, 542, 118, 104, "single", ["f64 to f32, and", "back; for word,", "numbers, decode"]),
+    ("leaf", 714, 542, 118, 104, "load, store", ["integers as bytes,", "with words; for", "values, fields,", "decode, emit, dates"]),
+    ("leaf", 846, 542, 114, 104, "position", ["starts, offsets,", "positions; for", "fetch, read"]),
 ]
 
 # from, to
@@ -81,6 +84,7 @@ ARROWS = [
     ((656, 180), (696, 180)),
     ((656, 270), (696, 270)),
     ((656, 360), (696, 360)),
+    ((656, 450), (696, 450)),
     ((806, 180), (846, 180)),
     ((806, 270), (846, 270)),
     ((806, 360), (846, 360)),
@@ -91,7 +95,7 @@ ARROWS = [
 LABELS = [
     ("title", 20, 34, "How a call flows through the crates"),
     ("small middle", 421, 172, "items"),
-    ("small", 186, 438, "Leaves, which call nothing but each other:"),
+    ("small", 186, 528, "Leaves, which call nothing but each other:"),
 ]
 
 
