@@ -44,7 +44,7 @@ BOXES = [
         "specs/: the claims,", "that measuring, writing", "and reading agree", "",
         "proofs/: their proofs,", "and laws that the", "code's proofs cite"]),
     ("definition", 20, 524, 146, 122, "calendar", [
-        "specs/: dates, day", "numbers, last days, and", "what is claimed of them", "", "proofs/: their proofs"]),
+        "specs/: dates, day", "numbers, last days,", "what is claimed", "", "proofs/: their proofs"]),
     ("proved", 186, 146, 130, 260, "format", [
         "hands out one item", "after the other, by", "a cursor by value"]),
     ("leaf", 198, 226, 106, 48, "options", ["the option table"]),
@@ -57,7 +57,7 @@ BOXES = [
     ("proved", 526, 146, 130, 68, "measure, bound", ["string_packsize,", "list_bound"]),
     ("proved", 526, 236, 130, 78, "write, tray", ["string_pack,", "pack_continued;", "pack_tray"]),
     ("proved", 526, 326, 130, 68, "read", ["string_unpack;", "read_pass"]),
-    ("proved", 526, 416, 130, 68, "dates", ["day_number, date_of,", "last_day"]),
+    ("proved", 526, 416, 130, 68, "dates", ["day_number,", "date_of, last_day"]),
     ("proved", 696, 146, 110, 338, "digribbon", [
         "the calls", "under C names:", "0, or a refusal's", "number"]),
     ("host", 846, 146, 114, 68, "C", ["header, example"]),
@@ -70,7 +70,7 @@ BOXES = [
     ("leaf", 318, 542, 118, 104, "values, fields", ["the value list, and", "runs of them; for", "numbers, word, plan,", "write, tray, read"]),
     ("leaf", 450, 542, 118, 104, "numbers", ["a value as integer", "or as number;", "for word"]),
     ("leaf", 582, 542, 118, 104, "single", ["f64 to f32, and", "back; for word,", "numbers, decode"]),
-    ("leaf", 714, 542, 118, 104, "load, store", ["integers as bytes,", "with words; for", "values, fields,", "decode, emit, dates"]),
+    ("leaf", 714, 542, 118, 104, "load, store", ["integers as bytes,", "with words;", "for values, fields,", "decode, emit"]),
     ("leaf", 846, 542, 114, 104, "position", ["starts, offsets,", "positions; for", "fetch, read"]),
 ]
 
