@@ -63,6 +63,27 @@ in-year d h =
     let m : daysBeforeMonth leap (suc (d .month)) ≤ daysBeforeMonth leap 13 = never-falls (daysBeforeMonth leap) (months-rise leap) (suc (d .month)) 13 (omega arith) in
     omega (arith, m, month-after d, whole-year leap)
 
+-- ---- a month follows another, whichever day of it is meant
+
+-- the days before a date's month
+abbrev pub first : Date → ℕ
+first d = daysBeforeYear (since d) + before d
+
+pub month-follows : (d : Date) (x : ℕ) → first (date (d .year) (d .month + 1) x) ≡ first d + lengthAt d
+month-follows d x =
+    let leap = isLeap (d .year) in
+    let s : d .month + 1 ≡ suc (d .month) = omega arith in
+    let b : daysBeforeMonth leap (d .month + 1) ≡ before d + lengthAt d = ap (daysBeforeMonth leap) s ∙ month-after d in
+    omega (arith, b)
+
+pub year-follows : (d : Date) (x : ℕ) → 2000 ≤ d .year → d .month ≡ 12 → first (date (d .year + 1) 1 x) ≡ first d + lengthAt d
+year-follows d x h m =
+    let leap = isLeap (d .year) in
+    let s : d .year + 1 - 2000 ≡ suc (since d) = omega arith in
+    let a : daysBeforeYear (d .year + 1 - 2000) ≡ daysBeforeYear (since d) + yearLength (d .year) = ap daysBeforeYear s ∙ year-after d h in
+    let w : before d + lengthAt d ≡ yearLength (d .year) = sym (month-after d) ∙ ap (λ (n : ℕ). daysBeforeMonth leap (suc n)) m ∙ whole-year leap in
+    omega (arith, a, w, january (isLeap (d .year + 1)))
+
 -- ---- no other date has the same day
 
 same-parts : (y z m n d e : ℕ) → y ≡ z → m ≡ n → d ≡ e → date y m d ≡ date z n e
@@ -131,25 +152,19 @@ in-month d v h =
 month-on-day-1 : (d : Date) → Valid d → d .day ≡ lengthAt d → d .month < 12 → Next d (date (d .year) (d .month + 1) 1)
 month-on-day-1 d v q m =
     let e = date (d .year) (d .month + 1) 1 in
-    let s : d .month + 1 ≡ suc (d .month) = omega arith in
-    let b : before e ≡ before d + lengthAt d = ap (daysBeforeMonth (isLeap (d .year))) s ∙ month-after d in
     let l : 28 ≤ lengthAt e = long-month (isLeap (d .year)) (d .month + 1) (omega arith) (omega arith) in
     record {
       is-valid = record { year = v .year; from = omega arith; to = omega arith; day = omega arith; within = omega arith };
-      one-more = omega (arith, days-are d, days-are e, b, v .day);
+      one-more = omega (arith, days-are d, days-are e, month-follows d 1, v .day);
     }
 
 year-on-day-1 : (d : Date) → Valid d → d .day ≡ lengthAt d → d .month ≡ 12 → Next d (date (d .year + 1) 1 1)
 year-on-day-1 d v q m =
     let e = date (d .year + 1) 1 1 in
-    let s : since e ≡ suc (since d) = omega (arith, v .year) in
-    let a : daysBeforeYear (since e) ≡ daysBeforeYear (since d) + yearLength (d .year) = ap daysBeforeYear s ∙ year-after d (v .year) in
-    let b : before e ≡ 0 = january (isLeap (d .year + 1)) in
-    let w : before d + lengthAt d ≡ yearLength (d .year) = sym (month-after d) ∙ ap (λ (n : ℕ). daysBeforeMonth (isLeap (d .year)) (suc n)) m ∙ whole-year (isLeap (d .year)) in
     let l : 28 ≤ lengthAt e = long-month (isLeap (d .year + 1)) 1 (omega arith) (omega arith) in
     record {
       is-valid = record { year = omega (arith, v .year); from = omega arith; to = omega arith; day = omega arith; within = omega arith };
-      one-more = omega (arith, days-are d, days-are e, a, b, w, v .day);
+      one-more = omega (arith, days-are d, days-are e, year-follows d 1 (v .year) m, v .day);
     }
 
 pub next-is : (d : Date) → Valid d → Next d (next d)

@@ -1,6 +1,6 @@
 -- Months follow each other, and from one to the next the last day of a pass rises.
 use Prim.Native.Nat.{ℕ, zero, suc, _+_, _-_, _≤_, _<_, min}
-use mathlib.Core.Path.{_≡_, refl, sym, ap, _∙_}
+use mathlib.Core.Path.{_≡_, refl, sym, _∙_}
 use mathlib.Core.Bool.{true, false}
 use native.Mathlib.Nat.{lt-trans}
 use native.Mathlib.Omega.{arith}
@@ -8,10 +8,10 @@ use lib.Dec.{leb, ltb}
 use borrow.Table.Steps.{cases}
 use borrow.Author.Tests.{leb-true, leb-false, ltb-true, ltb-false}
 use Rattle.laws.proofs.Answers.{true-not-false}
-use Rattle.calendar.specs.Calendar.{date, isLeap, yearLength, daysBeforeMonth, daysBeforeYear, daysBefore, lengthAt, isDate, monthOn, monthsOn, monthEnd, endBefore}
+use Rattle.calendar.specs.Calendar.{date, isLeap, daysBefore, lengthAt, isDate, monthOn, monthsOn, monthEnd, endBefore}
 use Rattle.calendar.specs.declared.Date.{Date}
-use Rattle.calendar.proofs.Counts.{long-month, whole-year, january}
-use Rattle.calendar.proofs.Dates.{valid, is-date, since, before, days-are, month-after, year-after}
+use Rattle.calendar.proofs.Counts.{long-month}
+use Rattle.calendar.proofs.Dates.{valid, is-date, first, days-are, month-follows, year-follows}
 
 -- a day, of which there may be none, of a month from 2000 on
 pub record Sought (d : Date) : Type 0 where
@@ -19,10 +19,6 @@ pub record Sought (d : Date) : Type 0 where
   pub from : 1 ≤ d .month
   pub to : d .month ≤ 12
   pub day : 1 ≤ d .day
-
--- the days before its month
-abbrev pub first : Date → ℕ
-first d = daysBeforeYear (since d) + before d
 
 pub long : (d : Date) → Sought d → 28 ≤ lengthAt d
 long d s = long-month (isLeap (d .year)) (d .month) (s .from) (s .to)
@@ -35,25 +31,18 @@ pub record Follows (d e : Date) : Type 0 where
   pub same : e .day ≡ d .day
 
 within-year : (d : Date) → Sought d → d .month < 12 → Follows d (date (d .year) (d .month + 1) (d .day))
-within-year d s h =
-    let q : d .month + 1 ≡ suc (d .month) = omega arith in
-    let b : daysBeforeMonth (isLeap (d .year)) (d .month + 1) ≡ before d + lengthAt d = ap (daysBeforeMonth (isLeap (d .year))) q ∙ month-after d in
-    record {
-      sought = record { year = s .year; from = omega arith; to = omega arith; day = s .day };
-      days = omega (arith, b);
-      same = refl;
-    }
+within-year d s h = record {
+  sought = record { year = s .year; from = omega arith; to = omega arith; day = s .day };
+  days = month-follows d (d .day);
+  same = refl;
+}
 
 over-the-year : (d : Date) → Sought d → d .month ≡ 12 → Follows d (date (d .year + 1) 1 (d .day))
-over-the-year d s h =
-    let q : d .year + 1 - 2000 ≡ suc (since d) = omega (arith, s .year) in
-    let a : daysBeforeYear (d .year + 1 - 2000) ≡ daysBeforeYear (since d) + yearLength (d .year) = ap daysBeforeYear q ∙ year-after d (s .year) in
-    let w : before d + lengthAt d ≡ yearLength (d .year) = sym (month-after d) ∙ ap (λ (n : ℕ). daysBeforeMonth (isLeap (d .year)) (suc n)) h ∙ whole-year (isLeap (d .year)) in
-    record {
-      sought = record { year = omega (arith, s .year); from = omega arith; to = omega arith; day = s .day };
-      days = omega (arith, a, w, january (isLeap (d .year + 1)));
-      same = refl;
-    }
+over-the-year d s h = record {
+  sought = record { year = omega (arith, s .year); from = omega arith; to = omega arith; day = s .day };
+  days = year-follows d (d .day) (s .year) h;
+  same = refl;
+}
 
 pub follows : (d : Date) → Sought d → Follows d (monthOn d)
 unfolding monthOn
@@ -69,8 +58,8 @@ months-follow (suc k) d s = follows (monthsOn k d) (months-follow k d s) .sought
 
 -- ---- the last day
 
-pub no-date : (d : Date) → 1 ≤ d .day → isDate d ≡ false → lengthAt d < d .day
-no-date d h e =
+pub behind-the-month : (d : Date) → 1 ≤ d .day → isDate d ≡ false → lengthAt d < d .day
+behind-the-month d h e =
     cases (leb (d .day) (lengthAt d))
     (λ g. absurd (true-not-false (sym (is-date d h (leb-true (d .day) (lengthAt d) g)) ∙ e)))
     (λ g. leb-false (d .day) (lengthAt d) g)
@@ -87,7 +76,7 @@ pub end-is : (d : Date) → Sought d → endBefore d ≡ first d + min (d .day -
 end-is d s =
     cases (isDate d)
     (λ e. let v = valid d e (s .year) in omega (arith, end-of-date d e, days-are d, v .within, v .day))
-    (λ e. omega (arith, end-of-month d e, days-are (monthEnd d), no-date d (s .day) e, long d s))
+    (λ e. omega (arith, end-of-month d e, days-are (monthEnd d), behind-the-month d (s .day) e, long d s))
 
 one-rise : (d : Date) → Sought d → endBefore d < endBefore (monthOn d)
 one-rise d s =

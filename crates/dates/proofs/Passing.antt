@@ -12,8 +12,8 @@ use Rattle.definition.specs.Answers.{accepted}
 use Rattle.laws.proofs.Answers.{never}
 use Rattle.calendar.specs.Calendar.{date, isLeap, daysBefore, lengthAt, isDate, dateAfter, monthOn, monthsOn, endBefore, dateOf}
 use Rattle.calendar.specs.declared.Date.{Date}
-use Rattle.calendar.proofs.Dates.{Valid, days-are, dated}
-use Rattle.calendar.proofs.Months.{Sought, first, long, follows, months-follow, end-is}
+use Rattle.calendar.proofs.Dates.{Valid, first, days-are, dated}
+use Rattle.calendar.proofs.Months.{Sought, long, follows, months-follow, end-is}
 use Rattle.calendar.proofs.Calls.{day-of}
 use Rattle.calendar.proofs.Conversions.{late}
 use Rattle.dates.specs.Fourth.{Later}

@@ -27,33 +27,33 @@ from-bound (negsuc n) k r f t e = absurd (true≢false (rw (toZ-ofZ f) at t))
 
 -- ---- what is below its bound
 
-pub early-year : (year month day : ℤ) → SFits w64 year → below year 2000 → dayNumber year month day ≡ refused 24
+pub year-below : (year month day : ℤ) → SFits w64 year → below year 2000 → dayNumber year month day ≡ refused 24
 unfolding dayNumber
-early-year (negsuc y) month day f t = refl
-early-year (pos y) month day f t = year-24 y month day (ltb-true y 2000 (rw (toZ-ofZ f) at t))
+year-below (negsuc y) month day f t = refl
+year-below (pos y) month day f t = year-24 y month day (ltb-true y 2000 (rw (toZ-ofZ f) at t))
 
-pub no-month : (year month day : ℤ) → SFits w64 month → below month 1 → dayNumber year month day ≡ refused 24
+pub month-below : (year month day : ℤ) → SFits w64 month → below month 1 → dayNumber year month day ≡ refused 24
 unfolding dayNumber
-no-month (negsuc y) (negsuc m) day f t = refl
-no-month (pos y) (negsuc m) day f t = refl
-no-month year (pos m) day f t = month-24 year m day (λ a b. omega (arith, ltb-true m 1 (rw (toZ-ofZ f) at t)))
+month-below (negsuc y) (negsuc m) day f t = refl
+month-below (pos y) (negsuc m) day f t = refl
+month-below year (pos m) day f t = month-24 year m day (λ a b. omega (arith, ltb-true m 1 (rw (toZ-ofZ f) at t)))
 
-pub no-day : (year month day : ℤ) → SFits w64 day → below day 1 → dayNumber year month day ≡ refused 24
+pub day-below : (year month day : ℤ) → SFits w64 day → below day 1 → dayNumber year month day ≡ refused 24
 unfolding dayNumber
-no-day (negsuc y) month (negsuc d) f t = refl
-no-day (pos y) (negsuc m) (negsuc d) f t = refl
-no-day (pos y) (pos m) (negsuc d) f t = refl
-no-day year month (pos d) f t = let q : d ≡ 0 = omega (arith, ltb-true d 1 (rw (toZ-ofZ f) at t)) in rw q (day-24 year month)
+day-below (negsuc y) month (negsuc d) f t = refl
+day-below (pos y) (negsuc m) (negsuc d) f t = refl
+day-below (pos y) (pos m) (negsuc d) f t = refl
+day-below year month (pos d) f t = let q : d ≡ 0 = omega (arith, ltb-true d 1 (rw (toZ-ofZ f) at t)) in rw q (day-24 year month)
 
-pub day-below : (day : ℤ) → SFits w64 day → below day 0 → dateOf day ≡ refused 24
+pub number-below : (day : ℤ) → SFits w64 day → below day 0 → dateOf day ≡ refused 24
 unfolding dateOf
-day-below (pos n) f t = absurd (omega (arith, ltb-true n 0 (rw (toZ-ofZ f) at t)))
-day-below (negsuc n) f t = refl
+number-below (pos n) f t = absurd (omega (arith, ltb-true n 0 (rw (toZ-ofZ f) at t)))
+number-below (negsuc n) f t = refl
 
-pub no-months : (first months : ℤ) → SFits w64 months → below months 1 → lastDay first months ≡ refused 26
+pub months-below : (first months : ℤ) → SFits w64 months → below months 1 → lastDay first months ≡ refused 26
 unfolding lastDay
-no-months first (negsuc k) f t = refl
-no-months first (pos k) f t = months-26 first k (λ a b. omega (arith, ltb-true k 1 (rw (toZ-ofZ f) at t)))
+months-below first (negsuc k) f t = refl
+months-below first (pos k) f t = months-26 first k (λ a b. omega (arith, ltb-true k 1 (rw (toZ-ofZ f) at t)))
 
 -- ---- a pass of 1 to 12 months
 

@@ -5,7 +5,7 @@ use borrow.Author.Needs.{needs}
 use Rattle.definition.specs.Answers.{accepted}
 use Rattle.calendar.specs.Calendar.{dateOf}
 use Rattle.calendar.proofs.Calls.{date-of, date-of-late}
-use Rattle.dates.proofs.Signs.{from-bound, day-below}
+use Rattle.dates.proofs.Signs.{from-bound, number-below}
 use Rattle.dates.proofs.date_of.Statement.{statement}
 use Rattle.dates.proofs.date_of.Tie as tie
 
@@ -17,7 +17,7 @@ pub date-of-spec : {M : Type 1} → statement M
 date-of-spec =
     tie.close
     (tie.spec
-    (λ c. sym (day-below _ (c .before .fits .day) (c .if1 .taken)))
+    (λ c. sym (number-below _ (c .before .fits .day) (c .if1 .taken)))
     (λ c κs. search needs)
     (λ c. sym (ap dateOf (sym (day (c .before))) ∙ date-of-late _ (c .if2 .taken)))
     (λ c κs. search needs)

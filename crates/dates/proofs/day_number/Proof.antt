@@ -3,7 +3,7 @@ use Prim.Native.Nat.{_≤_}
 use mathlib.Core.Path.{_≡_, sym}
 use lib.IntN.{pos}
 use borrow.Author.Needs.{needs}
-use Rattle.dates.proofs.Signs.{from-bound, early-year, no-month, no-day}
+use Rattle.dates.proofs.Signs.{from-bound, year-below, month-below, day-below}
 use Rattle.dates.proofs.day_number.Statement.{statement}
 use Rattle.dates.proofs.day_number.Tie as tie
 
@@ -20,9 +20,9 @@ pub day-number-spec : {M : Type 1} → statement M
 day-number-spec =
     tie.close
     (tie.spec
-    (λ c. sym (early-year _ _ _ (c .before .fits .year) (c .if1 .taken)))
-    (λ c. sym (no-month _ _ _ (c .before .before .fits .month) (c .if2 .taken)))
-    (λ c. sym (no-day _ _ _ (c .before .before .before .fits .day) (c .if3 .taken)))
+    (λ c. sym (year-below _ _ _ (c .before .fits .year) (c .if1 .taken)))
+    (λ c. sym (month-below _ _ _ (c .before .before .fits .month) (c .if2 .taken)))
+    (λ c. sym (day-below _ _ _ (c .before .before .before .fits .day) (c .if3 .taken)))
     (λ c κs. search needs) (λ c κs. search needs) (λ c κs. search needs)
     (λ c κs. year (c .before .before) .1)
     (λ c. rw (year (c .before .before .before) .0, month (c .before .before), day (c .before)) (c .number-of .ensures)))

@@ -11,7 +11,7 @@ use Rattle.calendar.proofs.Dates.{Valid}
 use Rattle.calendar.proofs.Existence.{months-26}
 use Rattle.dates.specs.Answers.{datedOf}
 use Rattle.dates.specs.Fourth.{Later}
-use Rattle.dates.proofs.Signs.{from-bound, no-months, by-first}
+use Rattle.dates.proofs.Signs.{from-bound, months-below, by-first}
 use Rattle.dates.proofs.Passing.{first-valid, later}
 use Rattle.dates.proofs.last_day.Statement.{statement}
 use Rattle.dates.proofs.last_day.Tie as tie
@@ -53,7 +53,7 @@ pub last-day-spec : {M : Type 1} → statement M
 last-day-spec =
     tie.close
     (tie.spec
-    (λ c. sym (no-months _ _ (c .before .fits .months) (c .if1 .taken)))
+    (λ c. sym (months-below _ _ (c .before .fits .months) (c .if1 .taken)))
     (λ c κs. search needs)
     (λ c. rw (months (c .before) .0) (sym (months-26 _ _ (λ a b. omega (arith, c .if2 .taken)))))
     (λ c κs. search needs) (λ c. search needs) (λ c. search needs)
