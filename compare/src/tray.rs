@@ -16,7 +16,7 @@ use crate::report::{Tally, lend, same_after, untouched};
 use std::process::ExitCode;
 
 pub use beside::{Stop, read_by_original};
-pub use case::{Trayed, all_cases, as_run, case_count, drawn};
+pub use case::{Trayed, all_cases, as_run, case_count, some_tray};
 pub use single::against_single_calls;
 
 // ---- the plain reading

@@ -64,8 +64,17 @@ fn every_short(length: u32) -> impl Iterator<Item = Trayed> {
 // ---- random runs
 
 /// A random run; every second one mostly means the same in Lua.
-pub fn drawn(random: &mut Random) -> Trayed {
+fn drawn(random: &mut Random) -> Trayed {
     let like_lua = random.one_in(2);
+    trayed(random, like_lua)
+}
+
+/// A random run, whatever it means in Lua.
+pub fn some_tray(random: &mut Random) -> Trayed {
+    trayed(random, false)
+}
+
+fn trayed(random: &mut Random, like_lua: bool) -> Trayed {
     let count = match random.below(20) {
         0 => 0,
         1..4 => 1,
