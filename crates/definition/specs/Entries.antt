@@ -1,5 +1,5 @@
--- What each of the 256 bytes means: alone, behind X, with digits, in writing, in reading; and what each numeral makes of an option. A statement is about all bytes or all numerals of 0..17, its answers are document 01's, and it holds by computation.
-use Prim.Native.Nat.{ℕ, zero, suc, _+_, _-_, _^_}
+-- What each of the 256 bytes means: alone, behind X, with digits, in writing, in reading; and what each numeral makes of an option. A statement is about all bytes or all numerals of 0..17, its answers are the documents', and it holds by computation.
+use Prim.Native.Nat.{ℕ, zero, suc, _+_, _-_, _^_, min}
 use Prim.Native.String.{String}
 use mathlib.Core.Path.{_≡_, refl}
 use mathlib.Core.Bool.{Bool, false, _||_, cond}
@@ -314,7 +314,7 @@ powers k g = accepted (g 1) ∷ accepted (g 2) ∷ refused k ∷ accepted (g 4) 
 
 -- lengths of records
 abbrev record-length : Value → List ℕ → Checked ℕ
-record-length v f = stringPack f (listOf (v ∷ [])) (replicate 17 238) .answer
+record-length v f = stringPack f (listOf (v ∷ [])) (replicate 33 238) .answer
 
 -- ---- the statements
 
@@ -349,6 +349,12 @@ pub record Entries : Type 0 where
   pub c-sizes : each stringPacksize "c" "" ≡ map accepted (from 0 18)
   pub alignments : each stringPacksize "!16xi" "" ≡ refused 3 ∷ (powers 6 (λ n. n + n) ++ (refused 3 ∷ []))
   pub X-alignments : each stringPacksize "!16xXi" "" ≡ refused 3 ∷ (powers 6 (λ n. n) ++ (refused 3 ∷ []))
+  -- of the length before the text of s, in writing, in reading and in the list bound; 10 comes first in measuring, and 8 bytes suit every limit
+  pub s-alignments : each (record-length (str "A")) "!16xs" "" ≡ refused 3 ∷ (powers 6 (λ n. n + n + 1) ++ (refused 3 ∷ []))
+  pub s-readings : each (λ f. result (reads f (replicate 32 0) (pos 1))) "!16xs" "" ≡ refused 3 ∷ (powers 6 (λ n. data-values (str "" ∷ []) (n + n + 1)) ++ (refused 3 ∷ []))
+  pub s-bounds : each (λ f. listBound f 5) "!16xs" "" ≡ refused 3 ∷ (powers 6 (λ n. 8) ++ (refused 3 ∷ []))
+  pub s-measures : each stringPacksize "!16xs" "" ≡ sized (λ n. refused 10)
+  pub s-limits : each (record-length (str "A")) "!" "xs" ≡ refused 4 ∷ (powers 5 (λ n. min n 8 + 9) ++ (refused 4 ∷ []))
   pub limits : each stringPacksize "!" "xXi16" ≡ refused 4 ∷ (powers 5 (λ n. n) ++ (refused 4 ∷ []))
   -- "Above 8 bytes an integer is filled with its sign": -2 in each size, in both orders
   pub little-sizes : each (λ f. result (packs f (listOf (neg 1 ∷ [])) 16)) "<i" "" ≡ sized (λ n. written (0xfe ∷ replicate (n - 1) 0xff))
@@ -395,6 +401,11 @@ entries =
       c-sizes = refl;
       alignments = refl;
       X-alignments = refl;
+      s-alignments = refl;
+      s-readings = refl;
+      s-bounds = refl;
+      s-measures = refl;
+      s-limits = refl;
       limits = refl;
       little-sizes = refl;
       big-sizes = refl;

@@ -1,4 +1,4 @@
--- What P1 to P14 and the tables of Entries leave out: traps, the order of checks, both sides of every boundary. A table for each subject; its answers are document 01's, and it holds by computation, of long texts by laws.
+-- What P1 to P14 and the tables of Entries leave out: traps, the order of checks, both sides of every boundary. A table for each subject; its answers are the documents', and it holds by computation, of long texts by laws.
 use Prim.Native.Nat.{ℕ, zero, suc, _-_, _^_, _≤_, _<_}
 use mathlib.Core.Path.{_≡_, refl}
 use mathlib.Core.Bool.{true, false}
@@ -21,13 +21,14 @@ use Rattle.definition.specs.Ops.{opOf}
 use Rattle.definition.specs.States.{state, start, longer, alignment, padding}
 use Rattle.definition.specs.Fields.{word, encode, short, upToZero, number, decode, kept}
 use Rattle.definition.specs.Measuring.{measureOp, measure}
-use Rattle.definition.specs.Writing.{writeField, writeOp}
+use Rattle.definition.specs.Writing.{Cell, pad, byte, writeField, writeOp}
 use Rattle.definition.specs.Reading.{Read, offset, positionOf, readField, readOp, read}
 use Rattle.definition.specs.Bound.{boundOp, bound}
 use Rattle.definition.specs.Program.{firstLine, decimalIn, printed}
 use Rattle.definition.specs.Calls.{Call, call, listBound, pack, packContinued, stringPack, unpack, stringUnpack}
 use Rattle.definition.specs.Profiles.{packs, continues, sizes, bounds, keeps, prints, data-number, data-values, data-continued, room, Row, pack-gives, pack-refused, size-gives, size-refused, read-gives, read-refused, Hold, int, neg, str}
 use Rattle.definition.specs.Entries.{written}
+use Rattle.definition.specs.Kept as Kept
 use Rattle.definition.specs.declared.Field.{Field}
 use Rattle.definition.specs.declared.Field.the-variants.{Number, Chars, ZeroEnded, Counted}
 use Rattle.definition.specs.declared.Kind.the-variants.{SmallSigned, Signed, Unsigned, LuaInteger, LuaUnsigned, Size}
@@ -125,7 +126,7 @@ list-bounds =
     ∷ (bounds (bytes "q") (2 ^ 63), refused 21)
     ∷ (bounds (bytes "!4i3") 0, refused 6)
     ∷ (bounds (bytes "!4Xi3") 0, refused 6)
-    ∷ (bounds (bytes "!4s3c3") 0, accepted (data-number 9))
+    ∷ (bounds (bytes "!4c3") 0, accepted (data-number 6))
     ∷ (bounds (bytes "s17") 0, refused 3)
     ∷ (bounds (bytes "zq") 0, refused 1)
     ∷ []
@@ -260,7 +261,7 @@ floats =
     ∷ pack-gives ">ff" (float 0xfff0_0000_0000_0001 ∷ float 0xfff4_0000_0000_0000 ∷ []) (0xff ∷ 0xc0 ∷ 0 ∷ 0 ∷ 0xff ∷ 0xe0 ∷ 0 ∷ 0 ∷ [])
     ∷ []
 
--- c z s: 12, then 14 or 15; none of them is aligned
+-- c z s: 12, then 14 or 15; c and z are not aligned
 abbrev texts : List Row
 texts =
     pack-gives "c0c2c3" (str "" ∷ str "AB" ∷ text (0 ∷ 0x41 ∷ []) ∷ []) (0x41 ∷ 0x42 ∷ 0 ∷ 0x41 ∷ 0 ∷ [])
@@ -282,8 +283,51 @@ texts =
     ∷ (packs (bytes "s1") (listOf (text (replicate 255 0x41) ∷ [])) 256, written (255 ∷ replicate 255 0x41))
     ∷ (packs (bytes "s1") (listOf (text (replicate 256 0x41) ∷ [])) 300, refused 15)
     ∷ (packs (bytes "<s2") (listOf (text (replicate 256 0x41) ∷ [])) 258, written (0 ∷ 1 ∷ replicate 256 0x41))
-    ∷ pack-gives "<!4bs4" (int 1 ∷ str "A" ∷ []) (1 ∷ 1 ∷ 0 ∷ 0 ∷ 0 ∷ 0x41 ∷ [])
     ∷ pack-gives "!4bzc4b" (int 1 ∷ str "A" ∷ str "B" ∷ int 2 ∷ []) (1 ∷ 0x41 ∷ 0 ∷ 0x42 ∷ 0 ∷ 0 ∷ 0 ∷ 2 ∷ [])
+    ∷ []
+
+-- "s takes the alignment of its starting integer": "to min(size, limit)", and nothing behind its text
+abbrev length-prefixes : List Row
+length-prefixes =
+    pack-gives "<!4bs4" (int 1 ∷ str "A" ∷ []) (1 ∷ 0 ∷ 0 ∷ 0 ∷ 1 ∷ 0 ∷ 0 ∷ 0 ∷ 0x41 ∷ [])
+    ∷ pack-gives "<!2bs4" (int 1 ∷ str "A" ∷ []) (1 ∷ 0 ∷ 1 ∷ 0 ∷ 0 ∷ 0 ∷ 0x41 ∷ [])
+    ∷ pack-gives "!8bs" (int 1 ∷ str "" ∷ []) (1 ∷ replicate 15 0)
+    ∷ pack-gives "!4bs1" (int 1 ∷ str "A" ∷ []) (1 ∷ 1 ∷ 0x41 ∷ [])
+    ∷ pack-gives ">!2s2s2b" (str "A" ∷ str "BC" ∷ int 7 ∷ []) (0 ∷ 1 ∷ 0x41 ∷ 0 ∷ 0 ∷ 2 ∷ 0x42 ∷ 0x43 ∷ 7 ∷ [])
+    ∷ (continues (state true 4 5) (bytes "s2") (listOf (str "A" ∷ [])) 4, accepted (data-continued (0 ∷ 0 ∷ 1 ∷ 0x41 ∷ []) 1 1 (state true 4 9)))
+    -- "6 is met by s too, after 3", and so before 11; the limit cuts a size down to a power of two
+    ∷ pack-refused "!4s3" [] 6
+    ∷ pack-refused "!4s3" (str "A" ∷ []) 6
+    ∷ pack-refused "!4s17" (str "A" ∷ []) 3
+    ∷ pack-gives "!2bs3" (int 1 ∷ str "" ∷ []) (1 ∷ replicate 4 0)
+    ∷ (bounds (bytes "!4s3") 0, refused 6)
+    ∷ (bounds (bytes "!4s17") 0, refused 3)
+    ∷ (bounds (bytes "!2s3") 0, accepted (data-number 3))
+    ∷ read-refused "!4s3" [] (pos 1) 6
+    ∷ read-refused "!4s17" [] (pos 1) 3
+    -- "in measuring 10 comes before it. X before s still gives 7"
+    ∷ size-refused "!4s3" 10
+    ∷ size-refused "!4s17" 3
+    ∷ size-refused "!4Xs3" 7
+    -- 9 looks at the padding too, after 15
+    ∷ (continues (state false 2 (2 ^ 63 - 4)) (bytes "s2") (listOf (str "" ∷ [])) 2, accepted (data-continued (0 ∷ 0 ∷ []) 1 1 (state false 2 (2 ^ 63 - 2))))
+    ∷ (continues (state false 2 (2 ^ 63 - 3)) (bytes "s2") (listOf (str "" ∷ [])) 3, refused 9)
+    ∷ (continues (state false 4 (2 ^ 63 - 1)) (bytes "s3") [] 3, refused 6)
+    -- in reading alignment counts from the data's first byte, and passes over any bytes; 17 there, in the length and in the text
+    ∷ read-gives "<!4bs4" (1 ∷ 9 ∷ 9 ∷ 9 ∷ 1 ∷ 0 ∷ 0 ∷ 0 ∷ 0x41 ∷ []) (pos 1) (int 1 ∷ str "A" ∷ []) 10
+    ∷ read-gives "<!4s4" (9 ∷ 9 ∷ 9 ∷ 9 ∷ 0 ∷ 0 ∷ 0 ∷ 0 ∷ []) (pos 2) (str "" ∷ []) 9
+    ∷ read-gives "!4bs1" (1 ∷ 1 ∷ 0x41 ∷ []) (pos 1) (int 1 ∷ str "A" ∷ []) 4
+    ∷ read-refused "!4bs4" (1 ∷ 9 ∷ 9 ∷ []) (pos 1) 17
+    ∷ read-refused "<!4bs4" (1 ∷ 9 ∷ 9 ∷ 9 ∷ 0 ∷ 0 ∷ 0 ∷ []) (pos 1) 17
+    ∷ read-refused "<!4bs4" (1 ∷ 9 ∷ 9 ∷ 9 ∷ 1 ∷ 0 ∷ 0 ∷ 0 ∷ []) (pos 1) 17
+    ∷ []
+
+-- "Padding is the zeros of x, X and alignment, not c's fill", nor the zero of z, nor the length of s
+abbrev padding-told : List (List Cell × List Cell)
+padding-told = (
+  Kept.written (bytes "<!4bs4xc2zXi") (listOf (int 1 ∷ str "A" ∷ str "B" ∷ str "C" ∷ [])) .cells,
+  byte 1 ∷ pad ∷ pad ∷ pad ∷ byte 1 ∷ byte 0 ∷ byte 0 ∷ byte 0 ∷ byte 0x41 ∷ pad ∷ byte 0x42 ∷ byte 0 ∷ byte 0x43 ∷ byte 0 ∷ pad ∷ pad ∷ [],
+)
     ∷ []
 
 -- the order of writing's checks, 21 first and 22 last; values beyond those taken are ignored
@@ -506,7 +550,7 @@ traced f o s v = record { field = f; start = offset o; bytes = s; value = v }
 
 abbrev traces : List (Checked (List Read × Position) × Checked (List Read × Position))
 traces = (
-  read options (bytes ">!4bis2zxc1c0") (9 ∷ 1 ∷ 9 ∷ 9 ∷ 0 ∷ 0 ∷ 0 ∷ 2 ∷ 0 ∷ 1 ∷ 0x41 ∷ 0x42 ∷ 0 ∷ 9 ∷ 0x43 ∷ 9 ∷ []) (pos 2),
+  read options (bytes ">!4bis2zxc1c0s2") (9 ∷ 1 ∷ 9 ∷ 9 ∷ 0 ∷ 0 ∷ 0 ∷ 2 ∷ 0 ∷ 1 ∷ 0x41 ∷ 0x42 ∷ 0 ∷ 9 ∷ 0x43 ∷ 9 ∷ 0 ∷ 1 ∷ 0x44 ∷ 9 ∷ []) (pos 2),
   accepted (
     traced (Number SmallSigned 1) 1 (1 ∷ []) (int 1)
         ∷ traced (Number Signed 4) 4 (0 ∷ 0 ∷ 0 ∷ 2 ∷ []) (int 2)
@@ -514,8 +558,9 @@ traces = (
         ∷ traced ZeroEnded 11 (0x42 ∷ 0 ∷ []) (str "B")
         ∷ traced (Chars 1) 14 (0x43 ∷ []) (str "C")
         ∷ traced (Chars 0) 15 [] (str "")
+        ∷ traced (Counted 2) 16 (0 ∷ 1 ∷ 0x44 ∷ []) (str "D")
         ∷ [],
-    positionOf (offset 15),
+    positionOf (offset 19),
   ),
 )
     ∷ []
@@ -600,6 +645,8 @@ pub record Examples : Type 0 where
   pub of-wrapped-floats : Hold wrapped-floats
   pub of-floats : Hold floats
   pub of-texts : Hold texts
+  pub of-length-prefixes : Hold length-prefixes
+  pub of-padding-told : Same padding-told
   pub of-checks : Hold checks
   pub of-continuing : Hold continuing
   pub of-lists : Hold lists
@@ -639,6 +686,8 @@ examples =
       of-wrapped-floats = refl;
       of-floats = refl;
       of-texts = refl;
+      of-length-prefixes = refl;
+      of-padding-told = refl;
       of-checks = refl;
       of-continuing = refl;
       of-lists = refl;

@@ -34,12 +34,12 @@ longer s n = do
 
 -- ---- alignment
 
--- "h H i I l L f d n j J T start at an offset that is a multiple of min(size, limit) .. b B c z s x don't align"
+-- "h H i I l L f d n j J T start at an offset that is a multiple of min(size, limit) .. b B c z .. don't align"; "s takes the alignment of its starting integer"
 abbrev pub natural : Field → ℕ
 natural (Number k n) = n
 natural (Chars n) = 1
 natural ZeroEnded = 1
-natural (Counted n) = 1
+natural (Counted n) = n
 
 -- min(natural, limit): "6 .. above 1 and no power of two"
 unfoldable pub alignment : State → ℕ → Checked ℕ

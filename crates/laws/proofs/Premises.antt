@@ -23,7 +23,7 @@ use Rattle.definition.specs.Calls.{pack, packContinued, stringPack, unpack, str
 use Rattle.definition.specs.Answers.{accepted}
 use Rattle.definition.specs.Trays.{runOf, firstList, listsPast, lists, records, packTray}
 use Rattle.laws.specs.Claims.{inTurn}
-use Rattle.laws.specs.Premises.{Needed, Divided}
+use Rattle.laws.specs.Premises.{Needed, Divided, Prefixed}
 use Rattle.laws.specs.Trays.{oneByOne, TraysNeeded}
 use Rattle.laws.proofs.Answers.{bound}
 use Rattle.laws.proofs.Runs.{lists-first, first-list}
@@ -59,6 +59,11 @@ divided = record {
   whole = refl;
   in-turn = refl;
 }
+
+pub prefixed : Prefixed
+unfolding little total signed laid listOf fieldOf valuesPast fieldsAfter entryList options digits taken itemsPast value numeralOf opOf longer alignment padding
+    word encode number decode writeField writeOp readField readOp read pack packContinued unpack stringUnpack inTurn
+prefixed = record { wrote = refl; held = (refl, (refl, (refl, (refl, (refl, (refl, tt)))))); back = refl; in-turn = refl }
 
 pub trays-needed : TraysNeeded
 unfolding little total fieldOf valuesPast options taken itemsPast opOf longer alignment padding writeOp pack stringPack runOf firstList listsPast records packTray oneByOne

@@ -1,4 +1,4 @@
--- Why the claims have each of their premises: an input without it, at which the conclusion fails. And a format divided into parts.
+-- Why the claims have each of their premises: an input without it, at which the conclusion fails. And a format divided into parts, and a record with padding before the length of s.
 use Prim.Native.Nat.{ℕ, _-_, _^_, _<_}
 use mathlib.Core.Path.{_≡_}
 use mathlib.Core.Bool.{false}
@@ -13,8 +13,8 @@ use Rattle.definition.specs.Items.{value}
 use Rattle.definition.specs.States.{state, start}
 use Rattle.definition.specs.Program.{decimal}
 use Rattle.definition.specs.Calls.{stringPacksize, packContinued, stringPack, stringUnpack}
-use Rattle.definition.specs.Kept.{keptList}
-use Rattle.laws.specs.Claims.{packedBytes, Divides, Total, totalOf, inTurn}
+use Rattle.definition.specs.Kept.{written, keptList}
+use Rattle.laws.specs.Claims.{packedBytes, Holds, Divides, Total, totalOf, inTurn}
 use Rattle.definition.specs.Profiles.{room}
 
 abbrev pub one : ℤ → List ℕ
@@ -72,3 +72,14 @@ pub record Divided : Type 0 where
   pub parts : Divides (bytes "<!4 b i") (bytes "<!4 b" ∷ [] ∷ bytes " i" ∷ [])
   pub whole : totalOf (packContinued start (bytes "<!4 b i") (two (pos 1) (pos 2)) (room 8)) ≡ accepted p4
   pub in-turn : inTurn start (two (pos 1) (pos 2)) ((bytes "<!4 b", room 1) ∷ ([], []) ∷ (bytes " i", room 7) ∷ []) ≡ accepted p4
+
+-- ---- `<!4bs4` with 1 and "A": the three bytes before the length of s are padding, which may be any, and which the part that has the s puts
+
+abbrev pub entry : List ℕ
+entry = listOf (integer (pos 1) ∷ text (bytes "A") ∷ [])
+
+pub record Prefixed : Type 0 where
+  pub wrote : packedBytes (bytes "<!4bs4") entry ≡ 1 ∷ 0 ∷ 0 ∷ 0 ∷ 1 ∷ 0 ∷ 0 ∷ 0 ∷ 0x41 ∷ []
+  pub held : Holds (written (bytes "<!4bs4") entry .cells) (1 ∷ 7 ∷ 8 ∷ 9 ∷ 1 ∷ 0 ∷ 0 ∷ 0 ∷ 0x41 ∷ [])
+  pub back : stringUnpack (bytes "<!4bs4") (1 ∷ 7 ∷ 8 ∷ 9 ∷ 1 ∷ 0 ∷ 0 ∷ 0 ∷ 0x41 ∷ []) (pos 1) (room 15) .buffer ≡ entry
+  pub in-turn : inTurn start entry ((bytes "<!4b", room 1) ∷ (bytes "s4", room 8) ∷ []) ≡ accepted (record { next = state false 4 9; bytes = packedBytes (bytes "<!4bs4") entry; used = 2; items = 4 })
