@@ -4,7 +4,7 @@ use definition::Offset;
 use definition::Setting;
 use definition::State;
 ghost use mathlib.Core.Path.{_≡_};
-ghost use Prim.Native.Nat.{ℕ, _+_, _-_, _^_, _≤_, min};
+ghost use Prim.Native.Nat.{ℕ, _+_, _-_, _^_, _≤_, _<_, min};
 ghost use lib.Dec.{leb};
 ghost use mathlib.Core.Bool.{_&&_};
 ghost use Rattle.definition.specs.States as states;
@@ -33,11 +33,8 @@ pub fn sum(total: u64, n: u64) -> u64
     requires { ⌜ n ≤ 2 ^ 63 - 1 ⌝ }
     ensures { λ r. ⌜ ((m : ℕ) → SameTo63 total m → SameTo63 r (m + n)) ⌝ }
 {
-    if total < 0x8000_0000_0000_0000 {
-        total + n
-    } else {
-        total
-    }
+    let more = std::num::wrapping_add_u64(total, n);
+    if more < n { total } else { more }
 }
 
 // The state with a byte order (true: big), a limit and a length.
@@ -119,13 +116,14 @@ pub fn is_sound(s: State) -> bool
     }
 }
 
-// The natural alignment of a field: of a number its size, and 1 of what doesn't align.
+// The natural alignment of a field: the size of a number, and of the length before the text of s; 1 of what doesn't align.
 pub fn natural(f: Field) -> u64
     ensures { λ r. ⌜ r ≡ states.natural f ⌝ }
 {
     match f {
         Field::Number(_, size) => size,
-        Field::Chars(_) | Field::ZeroEnded | Field::Counted(_) => 1,
+        Field::Counted(size) => size,
+        Field::Chars(_) | Field::ZeroEnded => 1,
     }
 }
 
@@ -174,4 +172,12 @@ pub fn fits(s: State, n: u64) -> bool
     ensures { λ r. ⌜ r ≡ leb (s .length + n) (2 ^ 63 - 1) ⌝ }
 {
     n <= MAX_LENGTH - s.length
+}
+
+// The same of so few bytes that 64 bits hold the sum, which is the length after them: one comparison.
+pub fn fits_few(s: State, n: u64) -> bool
+    requires { ⌜ s .length + n < 2 ^ 64 ⌝ }
+    ensures { λ r. ⌜ r ≡ leb (s .length + n) (2 ^ 63 - 1) ⌝ }
+{
+    s.length + n <= MAX_LENGTH
 }

@@ -22,7 +22,7 @@ ghost use Rattle.definition.specs.Calls.{listBound};
 ghost use Rattle.laws.proofs.Ops.{Sizes};
 ghost use Rattle.align.specs.Amounts.{stateOf};
 ghost use Rattle.options.specs.Packed.{tableAt};
-ghost use Rattle.bound.specs.Fields.{boundField, boundPad};
+ghost use Rattle.bound.specs.Fields.{boundAligned, boundField, boundPad};
 ghost use Rattle.measure.specs.Measured.{measuredOf};
 
 // The length of a text's field, of at most 65,535 bytes.
@@ -44,14 +44,21 @@ fn most(f: Field, data_length: u64) -> u64
     }
 }
 
+// The sum n on, where an alignment is allowed.
+fn bound_aligned(s: State, natural: u64, n: u64) -> Stepped
+    ensures { λ r. ⌜ stateOf r ≡ boundAligned s natural n ⌝ }
+{
+    match alignment(s, natural) {
+        Amount::Refused(k) => Stepped::Refused(k),
+        Amount::Bytes(_) => longer(s, n),
+    }
+}
+
 // The sum after a field, as the length of a state.
 fn bound_field(s: State, f: Field, data_length: u64) -> Stepped
     ensures { λ r. ⌜ stateOf r ≡ boundField «data_length» s f ⌝ }
 {
-    match alignment(s, natural(f)) {
-        Amount::Refused(k) => Stepped::Refused(k),
-        Amount::Bytes(_) => longer(s, most(f, data_length)),
-    }
+    bound_aligned(s, natural(f), most(f, data_length))
 }
 
 // The state as it is, where an alignment is allowed.

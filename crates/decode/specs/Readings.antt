@@ -39,12 +39,12 @@ Inside d (Text start n) = (start .0 + n ≤ length d) × (n ≤ 65535)
 
 -- ---- fields
 
--- c, z or s
-abbrev pub isText : Field → Bool
-isText (Number k n) = false
-isText (Chars n) = true
-isText ZeroEnded = true
-isText (Counted n) = true
+-- c or z
+abbrev pub isUnaligned : Field → Bool
+isUnaligned (Number k n) = false
+isUnaligned (Chars n) = true
+isUnaligned ZeroEnded = true
+isUnaligned (Counted n) = false
 
 abbrev pub decodedOf : List ℕ → Decoded → Checked (Value × ℕ)
 decodedOf d (Decoded.Refused k) = refused k

@@ -6,7 +6,7 @@ use mathlib.Core.Path.{_≡_, refl, ap, _∙_}
 use mathlib.Core.Bool.{Bool}
 use mathlib.Core.List.{List, [], _++_, append-assoc}
 use lib.ListN.{length, drop, replicate, length-append, length-replicate}
-use lib.Seq.{paste, length-paste}
+use lib.Seq.{paste}
 use Rattle.definition.specs.Bytes.{laid}
 use Rattle.store.proofs.Pasting.{paste-on, paste-front}
 use Rattle.laws.proofs.Bytes.{length-laid}
@@ -29,9 +29,7 @@ pasted-three d e f g x y z at n m k lx ly lz h p q r =
 pub padded-store : (d e g : List ℕ) (o : Bool) (at n m w b f : ℕ) → b ≡ f → at + (n + m) ≤ length d → e ≡ paste d at (replicate n 0) n → g ≡ paste e (at + n) (laid o m w b) m → g ≡ paste d at (replicate n 0 ++ laid o m w f) (n + m)
 padded-store d e g o at n m w b f i h p q = pasted d e g (replicate n 0) (laid o m w b) at n m (length-replicate n 0) (length-laid o m w b) (omega arith) p q ∙ ap (λ (x : ℕ). paste d at (replicate n 0 ++ laid o m w x) (n + m)) i
 
-pub padded-three : (d c e f g x y z : List ℕ) (at b n m k : ℕ) → length x ≡ n → length y ≡ m → length z ≡ k → at + (b + (n + m + k)) ≤ length d → c ≡ paste d at (replicate b 0) b
-    → e ≡ paste c (at + b) x n → f ≡ paste e (at + b + n) y m → g ≡ paste f (at + b + n + m) z k → g ≡ paste d at (replicate b 0 ++ (x ++ (y ++ z))) (b + (n + m + k))
-padded-three d c e f g x y z at b n m k lx ly lz h p q r t =
-    let long : length c ≡ length d = ap length p ∙ length-paste d at (replicate b 0) b (omega arith) (omega (arith, length-replicate {A = ℕ} b 0)) in
-    let whole : length (x ++ (y ++ z)) ≡ n + m + k = omega (arith, length-append x (y ++ z), length-append y z) in
-    pasted d c g (replicate b 0) (x ++ (y ++ z)) at b (n + m + k) (length-replicate b 0) whole (omega arith) p (pasted-three c e f g x y z (at + b) n m k lx ly lz (omega arith) q r t)
+pub padded-two : (d c e f x y : List ℕ) (at b n m : ℕ) → length x ≡ n → length y ≡ m → at + (b + (n + m)) ≤ length d → c ≡ paste d at (replicate b 0) b
+    → e ≡ paste c (at + b) x n → f ≡ paste e (at + b + n) y m → f ≡ paste d at (replicate b 0 ++ (x ++ y)) (b + (n + m))
+padded-two d c e f x y at b n m lx ly h p q r =
+    pasted-three d c e f (replicate b 0) x y at b n m (length-replicate b 0) lx ly (omega arith) p q r ∙ ap (paste d at (replicate b 0 ++ (x ++ y))) (add-assoc b n m)

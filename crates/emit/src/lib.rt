@@ -9,7 +9,7 @@ ghost use Prim.Native.Nat.{_+_, _≤_};
 ghost use lib.ListN.{length, replicate};
 ghost use lib.Seq.{paste};
 ghost use Rattle.definition.specs.Bytes.{laid};
-ghost use Rattle.store.specs.Texts.{textBytes};
+ghost use Rattle.store.specs.Texts.{textBytes, countedBytes};
 ghost use Rattle.word.specs.Words.{fillOf};
 
 // The byte above a word's eight.
@@ -50,21 +50,42 @@ pub fn emit_number(
     put_integer(out, at + zeros, size, big, word, fill(word));
 }
 
-// Zeros, and a text of the list after them, with its length before it in size bytes, and zeros after it.
+// Zeros, and a text of the list after them, with zeros after it.
 pub fn emit_text(
     put: bool,
     out: &mut [u8],
     at: usize,
     pads: usize,
-    big: bool,
     list: &[u8],
-    size: usize,
     start: usize,
     n: usize,
     zeros: usize,
 )
-    requires { ⌜ (put ≡ true → at + (pads + (size + n + zeros)) ≤ length (now out)) ⌝ ∗ ⌜ start + n ≤ length (now list) ⌝ }
-    ensures { λ _. ⌜ now (out .exit) ≡ cond put (paste (now (out .entry)) at (replicate pads 0 ++ textBytes big (now (list .entry)) size start n zeros) (pads + (size + n + zeros))) (now (out .entry)) ⌝ }
+    requires { ⌜ (put ≡ true → at + (pads + (n + zeros)) ≤ length (now out)) ⌝ ∗ ⌜ start + n ≤ length (now list) ⌝ }
+    ensures { λ _. ⌜ now (out .exit) ≡ cond put (paste (now (out .entry)) at (replicate pads 0 ++ textBytes (now (list .entry)) start n zeros) (pads + (n + zeros))) (now (out .entry)) ⌝ }
+{
+    if !put {
+        return;
+    }
+    put_zeros(out, at, pads);
+    put_copy(out, at + pads, list, start, n);
+    put_zeros(out, at + pads + n, zeros);
+}
+
+// Zeros, and a text of the list after them, with its length before it in so many bytes.
+pub fn emit_counted(
+    put: bool,
+    out: &mut [u8],
+    at: usize,
+    pads: usize,
+    big: bool,
+    size: usize,
+    list: &[u8],
+    start: usize,
+    n: usize,
+)
+    requires { ⌜ (put ≡ true → at + (pads + (size + n)) ≤ length (now out)) ⌝ ∗ ⌜ start + n ≤ length (now list) ⌝ }
+    ensures { λ _. ⌜ now (out .exit) ≡ cond put (paste (now (out .entry)) at (replicate pads 0 ++ countedBytes big (now (list .entry)) size start n) (pads + (size + n))) (now (out .entry)) ⌝ }
 {
     if !put {
         return;
@@ -72,5 +93,4 @@ pub fn emit_text(
     put_zeros(out, at, pads);
     put_integer(out, at + pads, size, big, n as u64, 0);
     put_copy(out, at + pads + size, list, start, n);
-    put_zeros(out, at + pads + size + n, zeros);
 }

@@ -26,7 +26,7 @@ use Rattle.definition.specs.declared.Op.{Op}
 use Rattle.definition.specs.declared.Op.the-variants as Op
 use Rattle.definition.proofs.Field.{the-type}
 use Rattle.definition.specs.Fields.{decode}
-use Rattle.decode.specs.Readings.{Within, valueOf, isText, decodedOf, DecodedInside, Decodes}
+use Rattle.decode.specs.Readings.{Within, valueOf, isUnaligned, decodedOf, DecodedInside, Decodes}
 use Rattle.fetch.specs.Fetching.{Stands, placeIn, Skips, afterOf, Countable, fetchedOf, FetchedStands, Fetches}
 use Rattle.decode.specs.declared.Decoded.{Decoded}
 use Rattle.decode.specs.declared.Decoded.the-variants as Decoded
@@ -125,16 +125,16 @@ module _ {d : List ℕ} {s : State} {n k : ℕ} where
   pad-op p e = rw e (record { says = rw (← p .says); stands = p .inside })
 
 -- ---- by the variant
--- by the tags of c, z and s
-pub text-tag : (f : Field) → OneOf (1 ∷ 2 ∷ 3 ∷ []) (tagOf the-type f) → T (isText f)
-text-tag (Field.Number k n) h = absurd (miss (1 ∷ 2 ∷ 3 ∷ []) 0 tt h)
-text-tag (Field.Chars n) h = tt
-text-tag Field.ZeroEnded h = tt
-text-tag (Field.Counted n) h = tt
+-- by the tags of c and z
+pub unaligned-tag : (f : Field) → OneOf (1 ∷ 2 ∷ []) (tagOf the-type f) → T (isUnaligned f)
+unaligned-tag (Field.Number k n) h = absurd (miss (1 ∷ 2 ∷ []) 0 tt h)
+unaligned-tag (Field.Chars n) h = tt
+unaligned-tag Field.ZeroEnded h = tt
+unaligned-tag (Field.Counted n) h = absurd (miss (1 ∷ 2 ∷ []) 3 tt h)
 
--- what is neither c nor s
-pub zero-ended-left : (f : Field) → T (isText f) → OneOf (0 ∷ 2 ∷ []) (tagOf the-type f) → f ≡ Field.ZeroEnded
+-- what is not c
+pub zero-ended-left : (f : Field) → T (isUnaligned f) → OneOf (0 ∷ 2 ∷ 3 ∷ []) (tagOf the-type f) → f ≡ Field.ZeroEnded
 zero-ended-left (Field.Number k n) h o = absurd h
-zero-ended-left (Field.Chars n) h o = absurd (miss (0 ∷ 2 ∷ []) 1 tt o)
+zero-ended-left (Field.Chars n) h o = absurd (miss (0 ∷ 2 ∷ 3 ∷ []) 1 tt o)
 zero-ended-left Field.ZeroEnded h o = refl
-zero-ended-left (Field.Counted n) h o = absurd (miss (0 ∷ 2 ∷ []) 3 tt o)
+zero-ended-left (Field.Counted n) h o = absurd h

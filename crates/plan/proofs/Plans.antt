@@ -38,13 +38,12 @@ use Rattle.values.specs.declared.Value.{Value}
 use Rattle.values.proofs.Fields.{takes-none, takes-first}
 use Rattle.word.specs.Words.{fillOf, Says}
 use Rattle.plan.specs.Texts.{firstText, TextAt, TextRead}
-use Rattle.store.specs.Texts.{textBytes}
-use Rattle.plan.specs.Plans.{wrote, Encoded, Wrote, Padded, ItemPlan, ItemAt, NumberPlan, TextPlan}
+use Rattle.plan.specs.Plans.{wrote, Encoded, Wrote, Padded, ItemPlan, ItemAt, NumberPlan, BytesPlan}
 use Rattle.plan.specs.declared.item.Plan.{Plan}
 use Rattle.plan.specs.declared.item.Plan.the-variants as Plan
 use Rattle.plan.specs.declared.text.Text.the-variants as Text
 use Rattle.word.specs.declared.Word.the-variants as Word
-use Rattle.plan.proofs.Texts.{text-length, within-to-16, TextField, no-text}
+use Rattle.plan.proofs.Texts.{within-to-16, TextField, no-text}
 
 -- ---- padding is below 16
 
@@ -172,16 +171,17 @@ module _ (l : List ℕ) (at : ℕ) (s : State) (k : Kind) (n : ℕ) where
         let t = takes-first l at vs known (meaning l v) next (h .says) in
         subst (λ (ws : List definition.Value). ItemPlan l s ws (Op.Put (Field.Number k n)) r) (sym (t .is)) (q l (t .others) e (t .left))
 
--- ---- texts
-module _ (s : State) (p n start len zeros next : ℕ) where
-  text-size : (l : List ℕ) → start + len ≤ length l → p + length (textBytes (s .big) l n start len zeros) ≡ p + (n + len + zeros)
-  text-size l within = ap (λ (m : ℕ). p + m) (text-length (s .big) l start len within n zeros)
+-- ---- texts: what `bytes` makes of a list that has the text is `size` long
+module _ (s : State) (p start len next : ℕ) (bytes : List ℕ → List ℕ) (size : ℕ) (sized : (l : List ℕ) → start + len ≤ length l → length (bytes l) ≡ size) where
+  whole-size : (l : List ℕ) → start + len ≤ length l → p + length (bytes l) ≡ p + size
+  whole-size l within = ap (λ (m : ℕ). p + m) (sized l within)
 
-  pub text-long : leb (s .length + (p + (n + len + zeros))) (2 ^ 63 - 1) ≡ false → TextPlan s p n start len zeros next (Plan.Refused 9)
-  text-long h l vs f x within = encoded-long l s vs f p _ next _ x (text-size l within) h
+  pub text-long : leb (s .length + (p + size)) (2 ^ 63 - 1) ≡ false → BytesPlan bytes s p start len next (Plan.Refused 9)
+  text-long h l vs f x within = encoded-long l s vs f p _ next _ x (whole-size l within) h
 
-  pub text-put : leb (s .length + (p + (n + len + zeros))) (2 ^ 63 - 1) ≡ true → TextPlan s p n start len zeros next (Plan.Text p n start len zeros next)
-  text-put h l vs f x within = (encoded-put l s vs f p _ next _ x (text-size l within) h, within)
+  pub text-put : leb (s .length + (p + size)) (2 ^ 63 - 1) ≡ true → (l : List ℕ) (vs : List definition.Value) (f : Field) → Encoded l s vs f p (bytes l) next → start + len ≤ length l
+      → Wrote l s vs (Op.Put f) p (bytes l) (p + size) next × (start + len ≤ length l)
+  text-put h l vs f x within = (encoded-put l s vs f p _ next _ x (whole-size l within) h, within)
 
 -- a text option f after p zeros, which passed what is checked before its value
 pub record Begun (l : List ℕ) (at : ℕ) (s : State) (f : Field) (p : ℕ) : Type 0 where
@@ -204,8 +204,8 @@ module _ {l : List ℕ} {at : ℕ} {s : State} {f : Field} {p : ℕ} (b : Begun 
         let t = h .found vs known in
         ap (λ (ws : List definition.Value). wrote s ws (Op.Put f)) (t .is) ∙ field-refused s f p (b .padded) (b .state) (b .early-is) _ (t .rest) j e
 
-    pub text-planned : (m zeros : ℕ) (r : Plan) → encode (s .big) f (text (take n (drop start l))) ≡ accepted (textBytes (s .big) l m start n zeros) → TextPlan s p m start n zeros next r → ItemAt l at s (Op.Put f) r
-    text-planned m zeros r e q vs known =
+    pub text-planned : (bytes : List ℕ → List ℕ) (r : Plan) → encode (s .big) f (text (take n (drop start l))) ≡ accepted (bytes l) → BytesPlan bytes s p start n next r → ItemAt l at s (Op.Put f) r
+    text-planned bytes r e q vs known =
         let t = h .found vs known in
         q l vs f (record { padded = b .padded; state = b .state; early-is = b .early-is; val = text (take n (drop start l)); rest = t .rest; first = t .is; encoded = e; list = t .list }) (h .within)
 

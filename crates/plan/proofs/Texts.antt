@@ -1,10 +1,9 @@
 -- The bytes of a text option are what the definition encodes, and without a text there are 11 and 12.
 use Prim.Native.Nat.{ℕ, suc, _+_, _-_, _^_, _≤_, _<_}
 use native.Mathlib.Omega.{arith}
-use native.Mathlib.Nat.{add-assoc}
 use mathlib.Core.Path.{_≡_, refl, sym, ap, _∙_, subst}
 use mathlib.Core.Bool.{Bool, true, false, _||_, or-true}
-use mathlib.Core.List.{List, [], _∷_, _++_, append-nil}
+use mathlib.Core.List.{List, [], _∷_}
 use mathlib.Core.Logic.{⊎-elim}
 use mathlib.Core.Option.{none}
 use lib.Dec.{T, leb, ltb, leb→le}
@@ -15,7 +14,7 @@ use types.Run.{OneOf}
 use denote.Enum.Declared.{tagOf}
 use borrow.Author.Tests.{leb-true, leb-false, le-leb, lt-leb, lt-ltb, le-ltb, eq-eqb, ne-eqb}
 use Rattle.definition.specs.Answers.{refused, accepted, orElse}
-use Rattle.definition.specs.Bytes.{little, laid}
+use Rattle.definition.specs.Bytes.{laid}
 use Rattle.definition.specs.Ops.{within16}
 use Rattle.definition.specs.Values as definition
 use Rattle.definition.specs.Values.{text, asBytes}
@@ -32,7 +31,7 @@ use Rattle.values.specs.declared.Value.the-variants as Value
 use Rattle.values.proofs.Fields.{takes-none, takes-first}
 use Rattle.values.proofs.Value.{the-type}
 use Rattle.plan.specs.Texts.{firstText, TextOf, TextAt, TextRead}
-use Rattle.store.specs.Texts.{textBytes}
+use Rattle.store.specs.Texts.{textBytes, countedBytes}
 use Rattle.plan.specs.declared.text.Text.{Text}
 use Rattle.plan.specs.declared.text.Text.the-variants as Text
 
@@ -72,54 +71,45 @@ module _ (l : List ℕ) (at : ℕ) where
             };
       }
 
--- ---- the bytes of a text
-no-prefix : (o : Bool) (v b : ℕ) → laid o 0 v b ≡ []
-unfolding laid little
-no-prefix false v b = refl
-no-prefix true v b = refl
-
-module _ (o : Bool) (l : List ℕ) (start n : ℕ) (within : start + n ≤ length l) where
-  abbrev part : List ℕ
-  part = take n (drop start l)
-
+-- ---- how many bytes a text has
+module _ (l : List ℕ) (start n : ℕ) (within : start + n ≤ length l) where
   size : length (take n (drop start l)) ≡ n
   size = length-take-le n (drop start l) (omega (arith, length-drop start l))
 
-  pub text-length : (k zeros : ℕ) → length (textBytes o l k start n zeros) ≡ k + n + zeros
-  text-length k zeros =
-      let z : List ℕ = replicate zeros 0 in
-      length-append (laid o k n 0) (part ++ z) ∙ ap (λ (x : ℕ). x + length (part ++ z)) (length-laid o k n 0)
-      ∙ ap (λ (x : ℕ). k + x) (length-append part z ∙ ap (λ (x : ℕ). x + length z) size ∙ ap (λ (x : ℕ). n + x) (length-replicate zeros 0))
-      ∙ sym (add-assoc k n zeros)
+  pub text-length : (zeros : ℕ) → length (textBytes l start n zeros) ≡ n + zeros
+  text-length zeros = omega (arith, length-append (take n (drop start l)) (replicate zeros 0), size, length-replicate {A = ℕ} zeros 0)
+
+  pub counted-length : (o : Bool) (k : ℕ) → length (countedBytes o l k start n) ≡ k + n
+  counted-length o k = omega (arith, length-append (laid o k n 0) (take n (drop start l)), length-laid o k n 0, size)
 
 -- ---- what the definition encodes of a text that was found, or refuses
 module _ (o : Bool) {l : List ℕ} {at start n next : ℕ} (x : TextAt l at start n next) where
   found-size : length (take n (drop start l)) ≡ n
-  found-size = size o l start n (x .within)
+  found-size = size l start n (x .within)
 
   pub chars-long : (m : ℕ) → m < n → encode o (Field.Chars m) (text (take n (drop start l))) ≡ refused 15
   unfolding encode
   chars-long m h = rw (found-size, lt-leb n m h)
 
-  pub chars-bytes : (m : ℕ) → n ≤ m → encode o (Field.Chars m) (text (take n (drop start l))) ≡ accepted (textBytes o l 0 start n (m - n))
+  pub chars-bytes : (m : ℕ) → n ≤ m → encode o (Field.Chars m) (text (take n (drop start l))) ≡ accepted (textBytes l start n (m - n))
   unfolding encode
-  chars-bytes m h = rw (found-size, le-leb n m h, no-prefix o n 0)
+  chars-bytes m h = rw (found-size, le-leb n m h)
 
   pub zero-ended-zero : hasZero (take n (drop start l)) ≡ true → encode o Field.ZeroEnded (text (take n (drop start l))) ≡ refused 14
   unfolding encode
   zero-ended-zero h = rw h
 
-  pub zero-ended-bytes : hasZero (take n (drop start l)) ≡ false → encode o Field.ZeroEnded (text (take n (drop start l))) ≡ accepted (textBytes o l 0 start n 1)
+  pub zero-ended-bytes : hasZero (take n (drop start l)) ≡ false → encode o Field.ZeroEnded (text (take n (drop start l))) ≡ accepted (textBytes l start n 1)
   unfolding encode
-  zero-ended-bytes h = rw (h, no-prefix o n 0)
+  zero-ended-bytes h = rw h
 
   pub counted-long : (m : ℕ) → ltb n (256 ^ m) ≡ false → encode o (Field.Counted m) (text (take n (drop start l))) ≡ refused 15
   unfolding encode
   counted-long m h = rw (found-size, h)
 
-  pub counted-bytes : (m : ℕ) → ltb n (256 ^ m) ≡ true → encode o (Field.Counted m) (text (take n (drop start l))) ≡ accepted (textBytes o l m start n 0)
+  pub counted-bytes : (m : ℕ) → ltb n (256 ^ m) ≡ true → encode o (Field.Counted m) (text (take n (drop start l))) ≡ accepted (countedBytes o l m start n)
   unfolding encode
-  counted-bytes m h = rw (found-size, h, append-nil (take n (drop start l)))
+  counted-bytes m h = rw (found-size, h)
 
 pub within-to-16 : (n : ℕ) → T (within16 n) → n ≤ 16
 within-to-16 n h = leb→le n 16 (and-yes (leb 1 n) (leb n 16) h .1)

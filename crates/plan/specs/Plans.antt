@@ -18,10 +18,10 @@ use Rattle.definition.specs.declared.Op.{Op}
 use Rattle.definition.specs.declared.Op.the-variants as Op
 use Rattle.values.specs.Meaning.{meaning}
 use Rattle.values.specs.declared.Value.{Value}
-use Rattle.store.specs.Texts.{textBytes}
+use Rattle.store.specs.Texts.{textBytes, countedBytes}
 use Rattle.word.specs.Words.{fillOf}
 use Rattle.plan.specs.declared.item.Plan.{Plan}
-use Rattle.plan.specs.declared.item.Plan.the-variants.{Refused, Skip, Set, Zeros, Number, Text}
+use Rattle.plan.specs.declared.item.Plan.the-variants.{Refused, Skip, Set, Zeros, Number, Text, Counted}
 
 -- what the item op gives, written at the state s with the values vs
 abbrev pub wrote : State → List definition.Value → Op → Checked (Place definition.Value × Output)
@@ -59,7 +59,8 @@ ItemPlan l s vs op Skip = wrote s vs op ≡ accepted (place s vs, nothing)
 ItemPlan l s vs op (Set x) = wrote s vs op ≡ accepted (place (set x s) vs, output [] [] 1)
 ItemPlan l s vs op (Zeros n) = Padded s vs op n
 ItemPlan l s vs op (Number p n w next) = Wrote l s vs op p (laid (s .big) n w (fillOf w)) (p + n) next
-ItemPlan l s vs op (Text p n start len zeros next) = Wrote l s vs op p (textBytes (s .big) l n start len zeros) (p + (n + len + zeros)) next × (start + len ≤ length l)
+ItemPlan l s vs op (Text p start len zeros next) = Wrote l s vs op p (textBytes l start len zeros) (p + (len + zeros)) next × (start + len ≤ length l)
+ItemPlan l s vs op (Counted p n start len next) = Wrote l s vs op p (countedBytes (s .big) l n start len) (p + (n + len)) next × (start + len ≤ length l)
 
 -- the plan of an item with the values of l from a field on
 abbrev pub ItemAt : List ℕ → ℕ → State → Op → Plan → Type 0
@@ -69,6 +70,14 @@ ItemAt l at s op r = (vs : List definition.Value) → values (drop at l) ≡ acc
 abbrev pub NumberPlan : State → ℕ → Kind → ℕ → Value → ℕ → Plan → Type 0
 NumberPlan s p k n v next r = (l : List ℕ) (rest : List definition.Value) → padding s n ≡ accepted p → values (drop next l) ≡ accepted rest → ItemPlan l s (meaning l v ∷ rest) (Op.Put (Field.Number k n)) r
 
--- of a text after p zeros that passed all checks but 9
-abbrev pub TextPlan : State → ℕ → ℕ → ℕ → ℕ → ℕ → ℕ → Plan → Type 0
-TextPlan s p n start len zeros next r = (l : List ℕ) (vs : List definition.Value) (f : Field) → Encoded l s vs f p (textBytes (s .big) l n start len zeros) next → start + len ≤ length l → ItemPlan l s vs (Op.Put f) r
+-- of a text of the list after p zeros that passed all checks but 9: what `bytes` makes of the list
+abbrev pub BytesPlan : (List ℕ → List ℕ) → State → ℕ → ℕ → ℕ → ℕ → Plan → Type 0
+BytesPlan bytes s p start len next r = (l : List ℕ) (vs : List definition.Value) (f : Field) → Encoded l s vs f p (bytes l) next → start + len ≤ length l → ItemPlan l s vs (Op.Put f) r
+
+-- zeros behind it
+abbrev pub TextPlan : State → ℕ → ℕ → ℕ → ℕ → ℕ → Plan → Type 0
+TextPlan s p start len zeros next r = BytesPlan (λ l. textBytes l start len zeros) s p start len next r
+
+-- its length before it, in n bytes
+abbrev pub CountedPlan : State → ℕ → ℕ → ℕ → ℕ → ℕ → Plan → Type 0
+CountedPlan s p n start len next r = BytesPlan (λ l. countedBytes (s .big) l n start len) s p start len next r

@@ -4,6 +4,7 @@ use crate::text::has_zero;
 use crate::text::text_at;
 use align::Amount;
 use align::fits;
+use align::fits_few;
 use align::natural;
 use align::padding;
 use definition::Field;
@@ -33,7 +34,7 @@ ghost use Rattle.laws.proofs.Numbers.{validSize};
 ghost use Rattle.laws.proofs.Ops.{validOp};
 ghost use Rattle.align.specs.Amounts.{amountOf};
 ghost use Rattle.values.specs.Meaning.{isAccepted, Proper};
-ghost use Rattle.plan.specs.Plans.{ItemPlan, ItemAt, NumberPlan, TextPlan};
+ghost use Rattle.plan.specs.Plans.{ItemPlan, ItemAt, NumberPlan, TextPlan, CountedPlan};
 
 // What an item does.
 pub enum Plan {
@@ -46,9 +47,12 @@ pub enum Plan {
     Zeros(u64),
     // A number: the zeros before it, its size, its word, and where the list's next field starts.
     Number(u64, u64, u64, usize),
-    // A text of the list: the zeros before it, the size of the length before it, where it starts, its length, the zeros
-    // after it, and where the list's next field starts.
-    Text(u64, u64, usize, usize, u64, usize),
+    // A text of the list: the zeros before it, where it starts, its length, the zeros after it, and where the list's next
+    // field starts.
+    Text(u64, usize, usize, u64, usize),
+    // A text of the list behind its length: the zeros before the length, the length's size, where the text starts, its
+    // length, and where the list's next field starts.
+    Counted(u64, u64, usize, usize, usize),
 }
 
 // x and X: 6, 9.
@@ -76,7 +80,7 @@ fn put_number(s: State, p: u64, kind: Kind, size: u64, v: Value, next: usize) ->
     match word_of(kind, size, v) {
         Word::Refused(k) => Plan::Refused(k),
         Word::Bits(w) => {
-            if fits(s, p + size) {
+            if fits_few(s, p + size) {
                 Plan::Number(p, size, w, next)
             } else {
                 Plan::Refused(9)
@@ -97,14 +101,14 @@ fn number(list: &[u8], at: usize, s: State, p: u64, kind: Kind, size: u64) -> Pl
 }
 
 // A text after p zeros that passed all checks but 9.
-fn put_text(s: State, p: u64, size: u64, start: usize, n: usize, zeros: u64, next: usize) -> Plan
-    requires { ⌜ Sound s ⌝ ∗ ⌜ p < 16 ⌝ ∗ ⌜ size + n + zeros ≤ 2 ^ 63 - 1 ⌝ }
-    ensures { λ r. ⌜ TextPlan s p size start n zeros next r ⌝ }
+fn put_text(s: State, p: u64, start: usize, n: usize, zeros: u64, next: usize) -> Plan
+    requires { ⌜ Sound s ⌝ ∗ ⌜ p < 16 ⌝ ∗ ⌜ n + zeros ≤ 2 ^ 63 - 1 ⌝ }
+    ensures { λ r. ⌜ TextPlan s p start n zeros next r ⌝ }
 {
-    if !fits(s, p + (size + n as u64 + zeros)) {
+    if !fits(s, p + (n as u64 + zeros)) {
         return Plan::Refused(9);
     }
-    Plan::Text(p, size, start, n, zeros, next)
+    Plan::Text(p, start, n, zeros, next)
 }
 
 // c after p zeros: 9, 11, 12, 15, 9.
@@ -121,7 +125,7 @@ fn chars(list: &[u8], at: usize, s: State, p: u64, n: u64) -> Plan
             if n < length as u64 {
                 return Plan::Refused(15);
             }
-            put_text(s, p, 0, start, length, n - length as u64, next)
+            put_text(s, p, start, length, n - length as u64, next)
         }
     }
 }
@@ -137,7 +141,7 @@ fn zero_ended(list: &[u8], at: usize, s: State, p: u64) -> Plan
             if has_zero(list, start, n) {
                 Plan::Refused(14)
             } else {
-                put_text(s, p, 0, start, n, 1, next)
+                put_text(s, p, start, n, 1, next)
             }
         }
     }
@@ -154,6 +158,17 @@ fn countable(size: u64, n: usize) -> bool
     true
 }
 
+// A text behind its length, after p zeros, that passed all checks but 9.
+fn put_counted(s: State, p: u64, size: u64, start: usize, n: usize, next: usize) -> Plan
+    requires { ⌜ Sound s ⌝ ∗ ⌜ p < 16 ⌝ ∗ ⌜ size ≤ 16 ⌝ ∗ ⌜ n ≤ 65535 ⌝ }
+    ensures { λ r. ⌜ CountedPlan s p size start n next r ⌝ }
+{
+    if !fits_few(s, p + (size + n as u64)) {
+        return Plan::Refused(9);
+    }
+    Plan::Counted(p, size, start, n, next)
+}
+
 // s after p zeros: 11, 12, 15, 9.
 fn counted(list: &[u8], at: usize, s: State, p: u64, size: u64) -> Plan
     requires { ⌜ Sound s ⌝ ∗ ⌜ isAccepted (values (drop at (now list))) ≡ true ⌝ ∗ ⌜ states.padding s (states.natural (fields.Counted size)) ≡ accepted p ⌝ ∗ ⌜ T (validField (fields.Counted size)) ⌝ }
@@ -163,7 +178,7 @@ fn counted(list: &[u8], at: usize, s: State, p: u64, size: u64) -> Plan
         Text::Refused(k) => Plan::Refused(k),
         Text::At(start, n, next) => {
             if countable(size, n) {
-                put_text(s, p, size, start, n, 0, next)
+                put_counted(s, p, size, start, n, next)
             } else {
                 Plan::Refused(15)
             }
@@ -178,32 +193,29 @@ fn padding_of(s: State, f: Field) -> Amount
     padding(s, natural(f))
 }
 
-// A field behind its padding: 6, then by its option.
-fn field_after(list: &[u8], at: usize, s: State, padded: Amount, f: Field) -> Plan
-    requires { ⌜ Sound s ⌝ ∗ ⌜ isAccepted (values (drop at (now list))) ≡ true ⌝ ∗ ⌜ amountOf padded ≡ states.padding s (states.natural f) ⌝ ∗ ⌜ T (validField f) ⌝ }
-    ensures { λ r. ⌜ ItemAt (now (list .entry)) at s (ops.Put f) r ⌝ }
-{
-    match padded {
-        Amount::Refused(k) => Plan::Refused(k),
-        Amount::Bytes(p) => match f {
-            Field::Number(kind, size) => number(list, at, s, p, kind, size),
-            Field::Chars(n) => chars(list, at, s, p, n),
-            Field::ZeroEnded => zero_ended(list, at, s, p),
-            Field::Counted(size) => counted(list, at, s, p, size),
-        },
-    }
-}
-
-// A field. It is told apart before it is padded, so that the compiler knows in each case which natural alignment it has.
+// A field: 6, then by its option. Each is padded by itself, so that the compiler knows in each case which natural alignment it
+// has, and goes on from there to that option's checks.
 fn field(list: &[u8], at: usize, s: State, f: Field) -> Plan
     requires { ⌜ Sound s ⌝ ∗ ⌜ isAccepted (values (drop at (now list))) ≡ true ⌝ ∗ ⌜ T (validField f) ⌝ }
     ensures { λ r. ⌜ ItemAt (now (list .entry)) at s (ops.Put f) r ⌝ }
 {
     match f {
-        Field::Number(_, _) => field_after(list, at, s, padding_of(s, f), f),
-        Field::Chars(_) => field_after(list, at, s, padding_of(s, f), f),
-        Field::ZeroEnded => field_after(list, at, s, padding_of(s, f), f),
-        Field::Counted(_) => field_after(list, at, s, padding_of(s, f), f),
+        Field::Number(kind, size) => match padding_of(s, f) {
+            Amount::Refused(k) => Plan::Refused(k),
+            Amount::Bytes(p) => number(list, at, s, p, kind, size),
+        },
+        Field::Chars(n) => match padding_of(s, f) {
+            Amount::Refused(k) => Plan::Refused(k),
+            Amount::Bytes(p) => chars(list, at, s, p, n),
+        },
+        Field::ZeroEnded => match padding_of(s, f) {
+            Amount::Refused(k) => Plan::Refused(k),
+            Amount::Bytes(p) => zero_ended(list, at, s, p),
+        },
+        Field::Counted(size) => match padding_of(s, f) {
+            Amount::Refused(k) => Plan::Refused(k),
+            Amount::Bytes(p) => counted(list, at, s, p, size),
+        },
     }
 }
 

@@ -17,7 +17,7 @@ use Rattle.definition.specs.declared.State.{State}
 use Rattle.definition.specs.declared.Setting.{Setting}
 use Rattle.definition.specs.declared.Op.{Op}
 use Rattle.values.specs.Meaning.{isAccepted}
-use Rattle.store.specs.Texts.{textBytes}
+use Rattle.store.specs.Texts.{textBytes, countedBytes}
 use Rattle.plan.specs.Plans.{Wrote, ItemPlan, ItemAt}
 use Rattle.word.specs.Words.{fillOf}
 use Rattle.plan.specs.declared.item.Plan.{Plan}
@@ -65,8 +65,11 @@ module _ {l : List ℕ} {p : Progress} {op : Op} where
   pub number-put : {n size word next : ℕ} → At l p op (Plan.Number n size word next) → Put l p op n (laid (p .state .big) size word (fillOf word)) (n + size) next
   number-put h = record { wrote = h .says }
 
-  pub text-put : {n size start len zeros next : ℕ} → At l p op (Plan.Text n size start len zeros next) → Put l p op n (textBytes (p .state .big) l size start len zeros) (n + (size + len + zeros)) next
+  pub text-put : {n start len zeros next : ℕ} → At l p op (Plan.Text n start len zeros next) → Put l p op n (textBytes l start len zeros) (n + (len + zeros)) next
   text-put h = record { wrote = h .says .0 }
+
+  pub counted-put : {n size start len next : ℕ} → At l p op (Plan.Counted n size start len next) → Put l p op n (countedBytes (p .state .big) l size start len) (n + (size + len)) next
+  counted-put h = record { wrote = h .says .0 }
 
   pub moved-skip : At l p op Plan.Skip → Moved l p op p
   moved-skip h = record { out = nothing; is = h .says; known = h .known; used = sym (add-zero (p .used)); items = sym (add-zero (p .items)); few = (omega arith, omega arith) }

@@ -4,6 +4,7 @@ use align::set;
 use definition::Continued;
 use definition::Op;
 use definition::State;
+use emit::emit_counted;
 use emit::emit_number;
 use emit::emit_text;
 use emit::emit_zeros;
@@ -92,20 +93,23 @@ fn advance(list: &[u8], p: Progress, op: Op, out: &mut [u8], w: usize, put: bool
             emit_number(put, out, w, n as usize, s.big, size as usize, word);
             Step::To(past_value(p, n + size, next))
         }
-        Plan::Text(n, size, start, length, zeros, next) => {
-            emit_text(
+        Plan::Text(n, start, length, zeros, next) => {
+            emit_text(put, out, w, n as usize, list, start, length, zeros as usize);
+            Step::To(past_value(p, n + (length as u64 + zeros), next))
+        }
+        Plan::Counted(n, size, start, length, next) => {
+            emit_counted(
                 put,
                 out,
                 w,
                 n as usize,
                 s.big,
-                list,
                 size as usize,
+                list,
                 start,
                 length,
-                zeros as usize,
             );
-            Step::To(past_value(p, n + (size + length as u64 + zeros), next))
+            Step::To(past_value(p, n + (size + length as u64), next))
         }
     }
 }

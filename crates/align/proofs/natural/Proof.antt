@@ -1,4 +1,4 @@
--- `natural` meets its contract: a number's size, and 1 by the tags of c, z and s.
+-- `natural` meets its contract: the size of a number and of the length of s, and 1 by the tags of c and z.
 use mathlib.Core.Path.{_≡_, refl}
 use mathlib.Core.List.{List, [], _∷_}
 use Prim.Native.Nat.{ℕ}
@@ -12,14 +12,14 @@ use borrow.Author.Needs.{needs}
 use Rattle.align.proofs.natural.Statement.{statement}
 use Rattle.align.proofs.natural.Tie as tie
 
-abbrev texts : List ℕ
-texts = 1 ∷ 2 ∷ 3 ∷ []
+abbrev unaligned : List ℕ
+unaligned = 1 ∷ 2 ∷ []
 
-text-by-one : (f : Field) → OneOf texts (tagOf the-type f) → 1 ≡ natural f
-text-by-one (Number k n) h = absurd (miss texts 0 tt h)
-text-by-one (Chars n) h = refl
-text-by-one ZeroEnded h = refl
-text-by-one (Counted n) h = refl
+unaligned-by-one : (f : Field) → OneOf unaligned (tagOf the-type f) → 1 ≡ natural f
+unaligned-by-one (Number k n) h = absurd (miss unaligned 0 tt h)
+unaligned-by-one (Chars n) h = refl
+unaligned-by-one ZeroEnded h = refl
+unaligned-by-one (Counted n) h = absurd (miss unaligned 3 tt h)
 
 pub natural-spec : {M : Type 1} → statement M
 natural-spec =
@@ -27,4 +27,6 @@ natural-spec =
     (tie.spec
     (λ c. search needs)
     (λ c. search needs)
-    (λ c. text-by-one (c .before .args .f) (c .match .keys2)))
+    (λ c. search needs)
+    (λ c. search needs)
+    (λ c. unaligned-by-one (c .before .args .f) (c .match .keys3)))

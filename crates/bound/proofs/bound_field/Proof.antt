@@ -1,4 +1,4 @@
--- The alignment decides, then the sum.
+-- By the field's natural alignment, and the most that it adds.
 use borrow.Author.Needs.{needs}
 use Rattle.bound.proofs.bound_field.Statement.{statement}
 use Rattle.bound.proofs.bound_field.Tie as tie
@@ -9,9 +9,5 @@ bound-field-spec =
     (tie.spec
     (λ c κs. search needs)
     (λ c κs. search needs)
-    (λ c. search needs)
-    (λ c. search needs)
     (λ c κs. search needs)
-    (λ c κs. search needs)
-    (λ c. let a = c .before .before .before in rw (← a .before .natural .ensures, ← a .alignment .ensures, c .before .k .given .1))
-    (λ c. let a = c .before .before .before .before in rw (← a .before .natural .ensures, ← a .alignment .ensures, c .before .before .enum-told .given .1, ← c .before .most .ensures) (c .longer .ensures)))
+    (λ c. rw (← c .before .before .natural .ensures, ← c .before .most .ensures) (c .bound-aligned .ensures)))

@@ -1,5 +1,5 @@
--- `read_field` meets its contract: a number, or by its tag a text.
-use Rattle.fetch.proofs.Places.{text-tag}
+-- `read_field` meets its contract: a number, s, or by its tag c or z.
+use Rattle.fetch.proofs.Places.{unaligned-tag}
 use borrow.Author.Needs.{needs}
 use Rattle.fetch.proofs.read_field.Statement.{statement}
 use Rattle.fetch.proofs.read_field.Tie as tie
@@ -9,6 +9,9 @@ read-field-spec =
     tie.close
     (tie.spec (λ c. search needs)
     (λ c κs. let s = c .before .before .before .before in (s .pre .0, rw (c .before .f .given .1) at (s .pre .1)))
-    (λ c κs. let s = c .before .before in (s .pre .0, text-tag (s .args .f) (c .match .keys2)))
+    (λ c. search needs)
+    (λ c κs. c .before .before .before .before .pre .0)
+    (λ c κs. let s = c .before .before in (s .pre .0, unaligned-tag (s .args .f) (c .match .keys3)))
     (λ c. rw (c .before .before .f .given .1) (c .read-number .ensures))
+    (λ c. rw (c .before .before .f2 .given .1) (c .read-counted .ensures))
     (λ c. c .read-text .ensures))

@@ -23,11 +23,11 @@ returns-2 c =
     let x = c .before .before .before .before .before in
     field-after (aligned x) (rw (← c .before .before .before .f .given .1) at (c .before .text .ensures (entry x .args .s .big))) (c .after .ensures)
 
-returns-4 : tie.Need-returns-4
-returns-4 c =
+returns-3 : tie.Need-returns-3
+returns-3 c =
     let x = c .before .before .before in
-    let is = zero-ended-left (entry x .args .f) (entry x .pre .1) (c .before .before .match2 .keys3) in
-    field-after (aligned x) (rw (← is) at (c .before .zero-ended .ensures (entry x .args .s .big))) (c .after3 .ensures)
+    let is = zero-ended-left (entry x .args .f) (entry x .pre .1) (c .before .before .match2 .keys2) in
+    field-after (aligned x) (rw (← is) at (c .before .zero-ended .ensures (entry x .args .s .big))) (c .after2 .ensures)
 
 pub read-text-spec : {M : Type 1} → statement M
 read-text-spec =
@@ -35,11 +35,6 @@ read-text-spec =
     (tie.spec (λ c κs. search needs) (λ c κs. search needs) (λ c. search needs) (λ c. search needs) (λ c. search needs)
     (λ c κs. aligned (c .before .before .before) .inside)
     (λ c κs. let s = entry (c .before .before .before .before) in countable (s .good .0 .0) (c .text .ensures (s .args .s .big)))
-    (λ c. search needs)
-    (λ c κs. aligned (c .before .before .before) .inside)
-    (λ c κs. countable (entry (c .before .before .before .before) .good .0 .0) (c .counted .ensures))
     (λ c κs. aligned (c .before) .inside)
     (λ c κs. let s = entry (c .before .before) in countable (s .good .0 .0) (c .zero-ended .ensures (s .args .s .big)))
-    returns returns-2
-    (λ c. let f = c .before .before .before in field-after (aligned (f .before .before)) (rw (← f .f2 .given .1) at (c .before .counted .ensures)) (c .after2 .ensures))
-    returns-4)
+    returns returns-2 returns-3)

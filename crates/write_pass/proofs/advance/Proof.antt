@@ -4,7 +4,7 @@ use mathlib.Core.Path.{_≡_, ap, _∙_}
 use native.Mathlib.Omega.{arith}
 use Rattle.plan.specs.declared.item.Plan.{Plan}
 use Rattle.write_pass.specs.Walks.{passed}
-use Rattle.write_pass.proofs.Stepping.{At, planned, as-plan, number-put, text-put, moved-skip, moved-set, moved-zeros, moved-value, zeros-room, value-room, refused-put, none-put, zeros-put, value-bytes-put}
+use Rattle.write_pass.proofs.Stepping.{At, planned, as-plan, number-put, text-put, counted-put, moved-skip, moved-set, moved-zeros, moved-value, zeros-room, value-room, refused-put, none-put, zeros-put, value-bytes-put}
 use borrow.Author.Needs.{needs}
 use Rattle.write_pass.proofs.advance.Statement.{statement}
 use Rattle.write_pass.proofs.advance.Tie as tie
@@ -16,12 +16,15 @@ entry c = c .before .before .before .before
 plan : (c : tie.After-plan-of) {r : Plan} → c .plan-of .result ≡ r → let a = entry c .args in At (a .list .now) (a .p) (a .op) r
 plan c e = as-plan (planned _ _ _ _ (entry c .pre .1 .0) (c .plan-of .ensures)) e
 
--- the length that a number or a text leads to
+-- the length that a number, a text, or one behind its length leads to
 number-fits : (x : tie.After-n2) → let g = x .n2 .given .0 in entry (x .before .before) .args .p .state .length + (g .0 + g .1 .0) ≤ 2 ^ 63 - 1
 number-fits x = plan (x .before .before) (x .n2 .given .1) .says .room
 
-text-fits : (x : tie.After-n3) → let g = x .n3 .given .0 in entry (x .before .before) .args .p .state .length + (g .0 + (g .1 .0 + g .1 .1 .1 .0 + g .1 .1 .1 .1 .0)) ≤ 2 ^ 63 - 1
+text-fits : (x : tie.After-n3) → let g = x .n3 .given .0 in entry (x .before .before) .args .p .state .length + (g .0 + (g .1 .1 .0 + g .1 .1 .1 .0)) ≤ 2 ^ 63 - 1
 text-fits x = plan (x .before .before) (x .n3 .given .1) .says .0 .room
+
+counted-fits : (x : tie.After-n4) → let g = x .n4 .given .0 in entry (x .before .before) .args .p .state .length + (g .0 + (g .1 .0 + g .1 .1 .1 .0)) ≤ 2 ^ 63 - 1
+counted-fits x = plan (x .before .before) (x .n4 .given .1) .says .0 .room
 
 emit-zeros-requires : tie.Need-emit-zeros-requires
 emit-zeros-requires c κs =
@@ -53,6 +56,19 @@ past-value-requires-2 c κs =
     let x = c .before .before .before .before .before in
     let s = entry (x .before .before) in
     (s .pre .1 .1 .0, (s .pre .1 .1 .1 .0, text-fits x))
+
+emit-counted-requires : tie.Need-emit-counted-requires
+emit-counted-requires c κs =
+    let x = c .before .before in
+    let s = entry (x .before .before) in
+    let h = plan (x .before .before) (x .n4 .given .1) in
+    (value-room (counted-put h) (s .args .put) _ (s .args .w) (s .pre .1 .1 .1 .1 .1), h .says .1)
+
+past-value-requires-3 : tie.Need-past-value-requires-3
+past-value-requires-3 c κs =
+    let x = c .before .before .before .before .before in
+    let s = entry (x .before .before) in
+    (s .pre .1 .1 .0, (s .pre .1 .1 .1 .0, counted-fits x))
 
 returns : tie.Need-returns
 returns c =
@@ -95,6 +111,13 @@ returns-6 c =
     let a = entry (x .before .before) .args in
     (moved-value v (c .past-value2 .ensures), value-bytes-put v (a .put) (a .out .now) (a .w) (c .before .before .before .emit-text .ensures))
 
+returns-7 : tie.Need-returns-7
+returns-7 c =
+    let x = c .before .before .before .before .before .before in
+    let v = counted-put (plan (x .before .before) (x .n4 .given .1)) in
+    let a = entry (x .before .before) .args in
+    (moved-value v (c .past-value3 .ensures), value-bytes-put v (a .put) (a .out .now) (a .w) (c .before .before .before .emit-counted .ensures))
+
 pub advance-spec : {M : Type 1} → statement M
 advance-spec =
     tie.close
@@ -117,8 +140,12 @@ advance-spec =
     emit-text-requires
     (λ c. omega (arith, text-fits (c .before .before .before .before .before)))
     (λ c. omega (arith, text-fits (c .before .before .before .before .before)))
-    (λ c. omega (arith, text-fits (c .before .before .before .before .before)))
     past-value-requires-2
+    (λ c. search needs)
+    emit-counted-requires
+    (λ c. omega (arith, counted-fits (c .before .before .before .before .before)))
+    (λ c. omega (arith, counted-fits (c .before .before .before .before .before)))
+    past-value-requires-3
     returns
     returns-2
     returns-3
@@ -127,4 +154,6 @@ advance-spec =
     (λ c. search needs)
     returns-5
     (λ c. search needs)
-    returns-6)
+    returns-6
+    (λ c. search needs)
+    returns-7)

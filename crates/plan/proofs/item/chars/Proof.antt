@@ -46,7 +46,7 @@ returns-4 : tie.Need-returns-4
 returns-4 c =
     let x = c .before .before .before in
     let n = entry (x .before .before) .args .n in
-    text-planned (begun (x .before .before)) (found x) 0 (n - x .start .given .0 .1 .0) (c .put-text .result) (chars-bytes _ (found x) _ (c .before .if2 .left)) (c .put-text .ensures)
+    text-planned (begun (x .before .before)) (found x) _ (c .put-text .result) (chars-bytes _ (found x) _ (c .before .if2 .left)) (c .put-text .ensures)
 
 pub chars-spec : {M : Type 1} → statement M
 chars-spec =

@@ -18,13 +18,13 @@ returns-2 : tie.Need-returns-2
 returns-2 c =
     let x = c .before .before .before in
     let a = entry x .args in
-    number-put (a .s) (a .p) (a .kind) (a .size) (a .v) (a .next) _ (λ l. rw (x .w .given .1) at (x .before .before .word-of .ensures l)) (sym (c .before .fits2 .ensures) ∙ c .if1 .taken)
+    number-put (a .s) (a .p) (a .kind) (a .size) (a .v) (a .next) _ (λ l. rw (x .w .given .1) at (x .before .before .word-of .ensures l)) (sym (c .before .fits-few .ensures) ∙ c .if1 .taken)
 
 returns-3 : tie.Need-returns-3
 returns-3 c =
     let x = c .before .before .before in
     let a = entry x .args in
-    number-long (a .s) (a .p) (a .kind) (a .size) (a .v) (a .next) _ (λ l. rw (x .w .given .1) at (x .before .before .word-of .ensures l)) (sym (c .before .fits2 .ensures) ∙ c .if1 .left)
+    number-long (a .s) (a .p) (a .kind) (a .size) (a .v) (a .next) _ (λ l. rw (x .w .given .1) at (x .before .before .word-of .ensures l)) (sym (c .before .fits-few .ensures) ∙ c .if1 .left)
 
 pub put-number-spec : {M : Type 1} → statement M
 put-number-spec =
@@ -34,7 +34,7 @@ put-number-spec =
     (λ c. search needs)
     (λ c. search needs)
     (λ c. omega (arith, entry (c .before) .pre .1 .0, size-small (entry (c .before) .args .kind) (entry (c .before) .args .size) (entry (c .before) .pre .1 .1 .1)))
-    (λ c κs. sound-length (entry (c .before) .args .s) (entry (c .before) .pre .0))
+    (λ c κs. let s = entry (c .before) in omega (arith, sound-length (s .args .s) (s .pre .0), s .pre .1 .0, size-small (s .args .kind) (s .args .size) (s .pre .1 .1 .1)))
     returns
     returns-2
     returns-3)

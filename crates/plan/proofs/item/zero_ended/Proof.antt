@@ -37,7 +37,7 @@ returns-3 : tie.Need-returns-3
 returns-3 c =
     let x = c .before .before .before .before in
     let bytes = zero-ended-bytes _ (found x) (sym (c .before .before .has-zero .ensures) ∙ c .before .if1 .left) in
-    text-planned (begun (entry (x .before .before))) (found x) 0 1 (c .put-text .result) bytes (c .put-text .ensures)
+    text-planned (begun (entry (x .before .before))) (found x) _ (c .put-text .result) bytes (c .put-text .ensures)
 
 pub zero-ended-spec : {M : Type 1} → statement M
 zero-ended-spec =
