@@ -7,6 +7,7 @@ use crate::domain::{self, Verdict};
 use crate::r#gen::{self, Random, Use};
 use crate::items::items;
 use crate::original::{Original, Outcome};
+use crate::prefixes::{self, Answered};
 use crate::read::some_readings;
 use crate::report::Named;
 use crate::tray::{self, Stop, Tray, as_run};
@@ -28,6 +29,7 @@ pub fn run(path: &str) -> ExitCode {
     written(&mut recording);
     read(&mut recording);
     trays(&mut recording);
+    prefixed(&mut recording);
     for (call, unmeasured) in [("m", "zs"), ("w", ""), ("r", "")] {
         let lacks =
             |option: &char| !recording.options.contains(&(call, *option as u8)) && !unmeasured.contains(*option);
@@ -697,5 +699,18 @@ fn trays(recording: &mut Recording) {
     for _ in 0..150 {
         let case = tray::some_tray(&mut random);
         recording.tray(&case.format, &case.run);
+    }
+}
+
+// ---- length prefixes, which the original doesn't align
+
+fn prefixed(recording: &mut Recording) {
+    recording.group("length prefixes, written and read, by a plain reading of the request");
+    for Answered { format, values, record, data } in prefixes::answered() {
+        let mark = if record.is_some() { ACCEPTED } else { REFUSED };
+        let written = record.map(|record| vec![bytes_of(&record)]).unwrap_or_default();
+        let read = if written.is_empty() { vec![] } else { vec![list_of(&values), (data.len() + 1).to_string()] };
+        recording.add("w", &format, &[list_of(&values)], mark, &written);
+        recording.add("r", &format, &[bytes_of(&data), "1".to_string()], mark, &read);
     }
 }
