@@ -21,10 +21,11 @@ pub enum Clause {
     Refused20,
     Refused21,
     Refused23,
+    WritingAtLimitOne,
     StartAdmitted,
     NoItemRefused6,
     AtMostEightBytes,
-    OnlyAtLimitOne,
+    ReadingAtLimitOne,
     AlignmentInsideData,
 }
 
@@ -41,10 +42,11 @@ impl Named for Clause {
         (Clause::Refused20, "nothing that 20 refuses"),
         (Clause::Refused21, "nothing that 21 refuses"),
         (Clause::Refused23, "nothing that 23 refuses: a damaged run has no lists"),
+        (Clause::WritingAtLimitOne, "writing: s only at limit 1"),
         (Clause::StartAdmitted, "reading: a start that 16 admits"),
         (Clause::NoItemRefused6, "reading: no item that 6 refuses"),
         (Clause::AtMostEightBytes, "reading: i I l L s at most 8 bytes"),
-        (Clause::OnlyAtLimitOne, "reading: n, T, s only at limit 1"),
+        (Clause::ReadingAtLimitOne, "reading: n, T, s only at limit 1"),
         (Clause::AlignmentInsideData, "reading: X staying inside the data"),
     ];
 
@@ -186,6 +188,13 @@ pub fn result_too_long(length: usize, room: usize) -> bool {
     length > room
 }
 
+// ---- "`string_pack` is compared on s only at limit 1"
+
+/// Of these options only at limit 1.
+fn above_limit_one(place: &Place, options: &[u8]) -> bool {
+    options.contains(&place.item.option) && place.settings.limit != 1
+}
+
 // ---- "For reading also"
 
 /// "a start that 16 admits": 1..len+1, or -len..-1.
@@ -202,11 +211,6 @@ fn item_refused_6(place: &Place) -> bool {
 /// "i I l L s at most 8 bytes". Above 16 both refuse.
 fn above_eight_bytes(place: &Place) -> bool {
     matches!(place.item.size().or(place.item.prefix()), Some(9..=16))
-}
-
-/// "n, T, s only at limit 1"
-fn above_limit_one(place: &Place) -> bool {
-    matches!(place.item.option, b'n' | b'T' | b's') && place.settings.limit != 1
 }
 
 /// "X staying inside the data"
@@ -324,7 +328,7 @@ pub fn writing(original: &mut Original, format: &[u8], list: &[u8], values: &[Va
         original,
         format,
         |place| match place.item.option {
-            b'n' | b'T' => place.settings.limit > 1,
+            b'n' | b'T' | b's' => place.settings.limit > 1,
             b'c' => matches!(place.item.numeral, Numeral::Number(n) if n > cap),
             b'X' => departure_2(Call::Writing, place) || departure_4(place),
             _ => false,
@@ -336,6 +340,7 @@ pub fn writing(original: &mut Original, format: &[u8], list: &[u8], values: &[Va
                 (Clause::Departure2, departure_2(Call::Writing, place)),
                 (Clause::Departure3, departure_3(Call::Writing, place)),
                 (Clause::Departure4, departure_4(place)),
+                (Clause::WritingAtLimitOne, above_limit_one(place, b"s")),
             ]);
             match verdict {
                 Verdict::Inside if chars_above_cap(place, offset, values, cap) => {
@@ -357,7 +362,7 @@ pub fn reading(original: &mut Original, format: &[u8], data: &[u8], start: i64) 
         |place| match place.item.option {
             b's' => true,
             b'i' | b'I' | b'l' | b'L' => item_refused_6(place) || above_eight_bytes(place),
-            b'n' | b'T' => above_limit_one(place),
+            b'n' | b'T' => place.settings.limit > 1,
             b'c' | b'z' => data.len() > LONGEST_TEXT || chars_past_two_to_64(place, data.len() as u64),
             b'X' => place.settings.limit > 1 || place.item.numeral != Numeral::Absent,
             _ => false,
@@ -371,7 +376,7 @@ pub fn reading(original: &mut Original, format: &[u8], data: &[u8], start: i64) 
                 (Clause::Refused20, text_too_long(original, place, format, data, start)),
                 (Clause::NoItemRefused6, item_refused_6(place)),
                 (Clause::AtMostEightBytes, above_eight_bytes(place)),
-                (Clause::OnlyAtLimitOne, above_limit_one(place)),
+                (Clause::ReadingAtLimitOne, above_limit_one(place, b"nTs")),
                 (Clause::AlignmentInsideData, alignment_past_end(place, offset, data)),
             ]);
             let Verdict::Inside = verdict else { return verdict };

@@ -1,6 +1,6 @@
 //! Random formats, values and data, from a small generator that gives the same for the same seed.
 
-use crate::items::{Item, Numeral, Settings, items};
+use crate::items::{Item, Numeral, items};
 use crate::value::{LONGEST_TEXT, Value};
 
 /// SplitMix64.
@@ -256,28 +256,24 @@ const SELDOM: u64 = 40;
 /// A format of which most items mean the same in Lua.
 pub fn like_lua(random: &mut Random, format: &[u8]) -> Vec<u8> {
     let mut like = Vec::with_capacity(format.len());
-    let mut settings = Settings::START;
     for item in &items(format) {
         let text = &format[item.start..item.end];
         if random.one_in(SELDOM) {
             like.extend_from_slice(text);
         } else {
-            item_like_lua(random, item, text, settings, &mut like);
+            item_like_lua(random, item, text, &mut like);
         }
-        settings = settings.after(item);
     }
     like
 }
 
-fn item_like_lua(random: &mut Random, item: &Item, text: &[u8], settings: Settings, like: &mut Vec<u8>) {
-    let aligned = item.prefix().is_some_and(|size| size.min(settings.limit) > 1);
+fn item_like_lua(random: &mut Random, item: &Item, text: &[u8], like: &mut Vec<u8>) {
     match (item.option, item.aligned) {
         (b'l' | b'L', _) => {
             like.push(if item.option == b'l' { b'i' } else { b'I' });
             like.extend_from_slice(&text[1..]);
         }
         (b'\t' | b'\n' | b'\r', _) => like.push(b' '),
-        (b's', _) if aligned && !random.one_in(3) => like.extend_from_slice(random.pick(&[&b"z"[..], b"s1"])),
         (b'c', _) if !matches!(item.numeral, Numeral::Number(..1_000_000)) => {
             like.extend_from_slice(format!("c{}", random.pick(&[9, 2_000_000, 2_147_483_600])).as_bytes());
         }

@@ -17,7 +17,6 @@ pub enum Clause {
     SmallRanges,
     BelowZero,
     FloatsForIntegers,
-    AlignedTexts,
     LimitNoPower,
     AlignedOptions,
     DigitsAfterFloat,
@@ -36,7 +35,6 @@ impl Named for Clause {
         (Clause::SmallRanges, "b B h H ranges: Lua checks them"),
         (Clause::BelowZero, "I L J below 0: Lua takes such an integer as 2^64 more"),
         (Clause::FloatsForIntegers, "j J T of floats: Lua wants an integer"),
-        (Clause::AlignedTexts, "aligned s: Lua aligns its length"),
         (Clause::LimitNoPower, "! no power of two: Lua takes it"),
         (Clause::AlignedOptions, "X before s x, which Lua takes, and bytes that are no option, which it doesn't"),
         (Clause::DigitsAfterFloat, "digits after Xf: no part of it in Lua"),
@@ -180,11 +178,6 @@ fn taken_for_text(place: &Place) -> bool {
 }
 
 // ---- the clauses on what Lua does with an item
-
-/// "aligned s": Lua fills up, or refuses the alignment. `offset` is where the item starts.
-fn aligned_text(place: &Place, offset: u64) -> bool {
-    place.item.prefix().is_some_and(|size| place.settings.padding(size, offset) != Some(0))
-}
 
 /// "numbers for texts and texts for numbers": Lua accepts one in this item.
 fn other_kind(place: &Place) -> bool {
@@ -346,11 +339,10 @@ fn candidate<'a>(place: Place<'a>, arguments: Arguments, cap: u64, most: u64) ->
         Arguments::Writing(_) => other_kind(&place),
         Arguments::Reading(data, _) => text && data.len() > LONGEST_TEXT,
     };
-    let aligned = !measuring && place.item.prefix().is_some_and(|size| size.min(place.settings.limit) > 1);
     let large = measuring && most > LARGEST_SIZE;
     let mut candidate = Candidate { place, certain, finding, through, large };
     candidate.through &= !candidate.decides();
-    (candidate.decides() || candidate.through || aligned || large).then_some(candidate)
+    (candidate.decides() || candidate.through || large).then_some(candidate)
 }
 
 fn certain(place: &Place, call: Arguments) -> Vec<Clause> {
@@ -389,9 +381,7 @@ impl Asked<'_> {
 
     fn judge(&self, candidate: &Candidate, before: Front, through: Option<Front>) -> Verdict {
         let place = &candidate.place;
-        let measuring = matches!(self.question.arguments, Arguments::Measuring);
         let asked = [
-            (Clause::AlignedTexts, !measuring && aligned_text(place, before.length)),
             (Clause::OtherKinds, through.is_some() && other_kind(place)),
             (Clause::LongTexts, through.is_some_and(long_text)),
         ];

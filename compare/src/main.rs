@@ -12,6 +12,7 @@ mod measure;
 mod original;
 mod ours;
 mod page;
+mod prefixes;
 mod properties;
 mod read;
 mod record;
@@ -47,6 +48,7 @@ fn main() -> ExitCode {
         "write" => (&[("seed", 1), ("cases", 6_000_000), ("cap", 100_000)], 0..=0),
         "read" => (&[("seed", 1), ("cases", 6_000_000)], 0..=0),
         "tray" => (&[("seed", 1), ("cases", 1_000_000), ("length", 4), ("cap", 100_000)], 0..=0),
+        "prefixes" => (&[], 0..=0),
         "dates" => (&[("seed", 1), ("cases", 1_000_000)], 0..=0),
         "properties" => (&[("seed", 1), ("cases", 1_000_000)], 0..=0),
         "record" => (&[], 1..=1),
@@ -92,6 +94,7 @@ fn run(command: &str, arguments: &Arguments) -> ExitCode {
         ("write", _) => write::run(number("seed"), number("cases"), number("cap")),
         ("read", _) => read::run(number("seed"), number("cases")),
         ("tray", _) => tray::run(number("seed"), number("cases"), number("length") as u32, number("cap")),
+        ("prefixes", _) => prefixes::run().finish(),
         ("dates", _) => dates::run(number("seed"), number("cases")).finish(),
         ("properties", _) => properties::run(number("seed"), number("cases")).finish(),
         ("record", Some(directory)) => record::run(directory),

@@ -58,7 +58,7 @@ pub fn run(seed: u64, cases: u64) -> Tally {
     for (count, name) in [
         (counts.sizes, "the measure is the items' sum, or their refusal; it is each record's length, or 10"),
         (counts.cuts, "parts in turn are the whole, or its refusal"),
-        (counts.read_back, "read back as the kept values with any padding, and written again"),
+        (counts.read_back, "padded as the items say, read back as the kept values with any padding, and written again"),
         (counts.bounds, "the list bound is the items' sum, or their refusal"),
         (counts.readings, "readings of any data: within the bound, the same from both ends, 16, X at the end 17"),
         (counts.long_fields, "i I l L s above 8 bytes: read where the fill is right, else 18"),
@@ -319,6 +319,7 @@ fn chars(item: &Item) -> usize {
 fn padding_replaced(case: &Written, record: &[u8], random: &mut Random) -> Result<Vec<u8>, String> {
     let mut data = Vec::new();
     let mut state = START;
+    let mut settings = Settings::START;
     let mut list = &case.list[..];
     let mut values = case.values.iter();
     for item in items(&case.format) {
@@ -329,11 +330,15 @@ fn padding_replaced(case: &Written, record: &[u8], random: &mut Random) -> Resul
         hold(content <= bytes.len(), || {
             format!("the item at {} gives {} bytes, not {content}", item.start, bytes.len())
         })?;
-        let padding = bytes.len() - content;
-        hold(bytes[..padding].iter().all(|byte| *byte == 0), || format!("padding {}", Bytes(&bytes)))?;
-        bytes[..padding].iter_mut().for_each(|byte| *byte = random.next() as u8);
+        let zeros = bytes.len() - content;
+        let expected = padding(&item, settings, data.len() as u64).map(|zeros| zeros + u64::from(item.option == b'x'));
+        hold(expected == Ok(zeros as u64) && bytes[..zeros].iter().all(|byte| *byte == 0), || {
+            format!("the item at {} gives {}, of which {expected:?} is padding", item.start, Bytes(&bytes))
+        })?;
+        bytes[..zeros].iter_mut().for_each(|byte| *byte = random.next() as u8);
         data.extend(bytes);
         (state, list) = (answer.next, skip(list, answer.used as usize));
+        settings = settings.after(&item);
     }
     Ok(data)
 }
@@ -399,8 +404,8 @@ fn through_single(bits: u64) -> u64 {
 
 // ---- measuring and the list bound, by the items
 
-/// The refusal of an item that needs no length: 1 to 8.
-fn refusal(item: &Item, settings: Settings) -> Option<u64> {
+/// The refusal of an item by itself: 1 to 8, but for 6.
+fn refusal(item: &Item) -> Option<u64> {
     let numeral = |number: u64, admitted: fn(u64) -> Option<u64>| match item.numeral {
         Numeral::TooLarge => Some(2),
         Numeral::Absent => None,
@@ -408,15 +413,12 @@ fn refusal(item: &Item, settings: Settings) -> Option<u64> {
         Numeral::Number(n) => admitted(n),
     };
     let size = || numeral(3, |_| None);
-    let alignment = |natural: Option<u64>| settings.padding(natural?, 0).is_none().then_some(6);
     match (item.option, item.aligned) {
         (b'X', Some(128..)) => Some(1),
         (b'X', None | Some(b'X' | b'<' | b'>' | b'=' | b'!' | b'c' | b's' | b'z' | b'x')) => Some(7),
         (b'X', Some(next)) if is_blank(next) => Some(7),
         (b'X', Some(b'f')) => None,
-        (b'X', Some(_)) => size().or(alignment(item.natural())),
-        (b'i' | b'I' | b'l' | b'L', _) => size().or(alignment(item.size())),
-        (b's', _) => size(),
+        (b'X', Some(_)) | (b'i' | b'I' | b'l' | b'L' | b's', _) => size(),
         (b'!', _) => numeral(4, |limit| (!limit.is_power_of_two()).then_some(5)),
         (b'c', _) => match item.numeral {
             Numeral::Absent => Some(8),
@@ -430,12 +432,19 @@ fn refusal(item: &Item, settings: Settings) -> Option<u64> {
     }
 }
 
+/// "start at an offset that is a multiple of min(size, limit) .. zeros fill up", also "writing and reading s", by the size of
+/// its length; and X "aligns only". Else "6 min(size, limit) above 1 and no power of two".
+fn padding(item: &Item, settings: Settings, length: u64) -> Result<u64, u64> {
+    let natural = item.size().or(item.prefix()).or(item.natural()).unwrap_or(1);
+    settings.padding(natural, length).ok_or(6)
+}
+
 /// Sums over the items; 9 above 2^63-1. `add` gives what an item adds to the sum before it.
 fn sum(format: &[u8], add: impl Fn(&Item, Settings, u64) -> Result<u64, u64>) -> Result<u64, u64> {
     let mut settings = Settings::START;
     let mut sum = 0;
     for item in items(format) {
-        if let Some(number) = refusal(&item, settings) {
+        if let Some(number) = refusal(&item) {
             return Err(number);
         }
         let more = add(&item, settings, sum)?;
@@ -447,13 +456,11 @@ fn sum(format: &[u8], add: impl Fn(&Item, Settings, u64) -> Result<u64, u64>) ->
 
 /// What an item adds to the length in measuring.
 fn measured(item: &Item, settings: Settings, length: u64) -> Result<u64, u64> {
-    let padding = |natural| settings.padding(natural, length).unwrap_or(0);
     match item.option {
         b'z' | b's' => Err(10),
         b'x' => Ok(1),
         b'c' => Ok(chars(item) as u64),
-        b'X' => Ok(padding(item.natural().unwrap_or(1))),
-        _ => Ok(item.size().map_or(0, |size| padding(size) + size)),
+        _ => Ok(padding(item, settings, length)? + item.size().unwrap_or(0)),
     }
 }
 
@@ -473,11 +480,14 @@ fn bound(case: &Written, random: &mut Random, counts: &mut Counts) -> Held {
         1 => i64::MAX as u64 - random.below(3),
         _ => 65_533 + random.below(6),
     };
-    let cost = |item: &Item, _: Settings, _: u64| match item.option {
-        b'c' => Ok(3 + (chars(item) as u64).min(65_535)),
-        b'z' | b's' => Ok(3 + data_length.min(65_535)),
-        _ if item.has_value() => Ok(11),
-        _ => Ok(0),
+    let cost = |item: &Item, settings: Settings, _: u64| {
+        padding(item, settings, 0)?;
+        match item.option {
+            b'c' => Ok(3 + (chars(item) as u64).min(65_535)),
+            b'z' | b's' => Ok(3 + data_length.min(65_535)),
+            _ if item.has_value() => Ok(11),
+            _ => Ok(0),
+        }
     };
     let expected = sum(&case.format, cost);
     let bound = ours::list_bound(&case.format, data_length);

@@ -7,6 +7,7 @@ use crate::lua::Lua;
 use crate::measure;
 use crate::original::Original;
 use crate::page;
+use crate::prefixes;
 use crate::properties;
 use crate::read;
 use crate::report::{Check, Count, Tally, grouped};
@@ -59,11 +60,16 @@ fn compare_all(numbers: &Numbers, module: bool) -> Result<(Vec<Tally>, String), 
     tallies.extend(compare("measure", formats, measure::format_count(length) + cases, &mut others));
 
     let mut random = Random::new(seed);
-    tallies.extend(compare("write", (0..cases).map(|_| Written::drawn(&mut random)), cases, &mut others));
+    let prefixed = prefixes::writings();
+    let total = prefixed.len() as u64 + cases;
+    let writings = prefixed.into_iter().chain((0..cases).map(|_| Written::drawn(&mut random)));
+    tallies.extend(compare("write", writings, total, &mut others));
 
     let (mut random, mut writer) = (Random::new(seed), Original::default());
+    let prefixed = prefixes::readings();
+    let total = prefixed.len() as u64 + cases;
     let readings = std::iter::repeat_with(|| read::drawn(&mut random, &mut writer)).flatten();
-    tallies.extend(compare("read", readings.take(cases as usize), cases, &mut others));
+    tallies.extend(compare("read", prefixed.into_iter().chain(readings.take(cases as usize)), total, &mut others));
 
     let mut random = Random::new(seed);
     let trays = tray::all_cases(&mut random, cases, length);
@@ -71,6 +77,7 @@ fn compare_all(numbers: &Numbers, module: bool) -> Result<(Vec<Tally>, String), 
 
     others.lua.finish()?;
     tallies.push(tray::against_single_calls(seed, cases, length));
+    tallies.push(prefixes::run());
     tallies.push(dates::run(seed, cases));
     tallies.push(properties::run(seed, cases));
     Ok((tallies, version))
