@@ -157,6 +157,8 @@ static void test_measuring(void)
     measures("c9223372036854775807b", 9, 0);
     measures("!4i3", 6, 0);
     measures("z", 10, 0);
+    measures("!4s3", 10, 0);
+    bounds("!4s3", 100, 6, 0);
     bounds("<i3 z c4", 100, 0, 11 + 103 + 7);
     bounds("", ABOVE - 1, 0, 0);
     bounds("", ABOVE, 21, 0);
@@ -169,6 +171,9 @@ static void test_writing(void)
     packs("<!4 b i", BYTES(INTEGER(1), INTEGER(2)), 8, 0, BYTES(1, 0, 0, 0, 2, 0, 0, 0));
     packs("<!4 b i", BYTES(INTEGER(1), INTEGER(2)), 7, 22, nothing);
     packs("<s1", BYTES(3, 0, 2, 'A', 'B'), 3, 0, BYTES(2, 'A', 'B'));
+    packs("<!4bs4", BYTES(INTEGER(1), 3, 0, 1, 'A'), 9, 0, BYTES(1, 0, 0, 0, 1, 0, 0, 0, 'A'));
+    packs("<!4bs1", BYTES(INTEGER(1), 3, 0, 1, 'A'), 9, 0, BYTES(1, 1, 'A'));
+    packs("!4s3", BYTES(3, 0, 1, 'A'), 9, 6, nothing);
     packs("<j i1", BYTES(INTEGER(1), INTEGER(200)), 9, 13, nothing);
     packs("b", BYTES(1, 0, 8), 1, 21, nothing);
 }
@@ -185,6 +190,7 @@ static void test_continued_writing(void)
     continues((State){0, 4, 1}, "> i", BYTES(INTEGER(2)), 7, 0, BYTES(0, 0, 0, 0, 0, 0, 2),
               (uint64_t[]){1, 4, 8, 7, 1, 2});
     continues((State){0, 4, 1}, "> i", BYTES(INTEGER(2)), 6, 22, nothing, NULL);
+    continues((State){0, 4, 1}, "s2", BYTES(3, 0, 1, 'A'), 4, 0, BYTES(0, 1, 0, 'A'), (uint64_t[]){0, 4, 5, 4, 1, 1});
     continues((State){0, 3, 0}, "", nothing, 1, 21, nothing, NULL);
     continues((State){0, 1, ABOVE}, "", nothing, 1, 21, nothing, NULL);
 }
@@ -234,7 +240,7 @@ static void test_sums(void)
     static const struct {
         const char *format;
         size_t numerals;
-    } longest[] = {{"!16bi16", 0}, {"!8bj", 0}, {"!8bs", 0}, {"bs16", 0}, {"bc300", 300}, {"!16bXi16", 0}, {"bz", 0}};
+    } longest[] = {{"!16bi16", 0}, {"!8bj", 0}, {"!8bs", 0}, {"!16bs16", 0}, {"bc300", 300}, {"!16bXi16", 0}, {"bz", 0}};
     for (size_t i = 0; i < sizeof longest / sizeof longest[0]; i++) {
         Slice format = text(longest[i].format);
         bool takes_text = strpbrk(longest[i].format, "scz") != NULL;

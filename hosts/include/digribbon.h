@@ -37,8 +37,8 @@
  *     2    8 bytes: the bits of a float, big-endian
  *     3    0 to 65,535 bytes: a text
  *
- * Calls are added under new names, and new refusals take new numbers. Those here keep their names, arguments, answers
- * and numbers.
+ * Calls are added under new names, and new refusals take new numbers. Those here keep their names, arguments and numbers;
+ * where what a call answers changes, the middle number of the version rises, and CHANGELOG.md says how.
  */
 #ifndef DIGRIBBON_H
 #define DIGRIBBON_H
@@ -50,8 +50,8 @@
  * The version of header and archive, as text and as a number for #if: 10,000, 100 and 1 times its three numbers. The
  * last of these rises where something is added, the middle one where an answer changes.
  */
-#define DIGRIBBON_VERSION "0.1.2"
-#define DIGRIBBON_VERSION_NUMBER 102
+#define DIGRIBBON_VERSION "0.2.0"
+#define DIGRIBBON_VERSION_NUMBER 200
 
 #if SIZE_MAX < UINT64_MAX
 #error "Digribbon is for hosts with a size_t of 8 bytes."

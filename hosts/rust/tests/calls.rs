@@ -34,6 +34,9 @@ fn profiles_are_written() {
     assert_eq!(p5, Ok(vec![1, 0, 0, 0, 0, 0, 0, 0, 0, 0, 0, 0, 0, 0, 0xF0, 0x3F]));
     assert_eq!(pack("b", &values([200])), Ok(vec![0xC8]));
     assert_eq!(pack("<s1", &values(["AB"])), Ok(b"\x02AB".to_vec()));
+    let entry = values([Value::Integer(1), Value::Text(b"A")]);
+    assert_eq!(pack("<!4bs4", &entry), Ok(vec![1, 0, 0, 0, 1, 0, 0, 0, b'A']));
+    assert_eq!(pack("<!4bs1", &entry), Ok(vec![1, 1, b'A']));
     assert_eq!(pack("c3", &values(["AB"])), Ok(b"AB\0".to_vec()));
     assert_eq!(pack("<T", &values([-0.5])), Ok(vec![0xFF; 8]));
     assert_eq!(pack("<f", &values([1152921573326323713_i64])), Ok(vec![0, 0, 0x80, 0x5D]));
@@ -54,6 +57,7 @@ fn profiles_are_read() {
     read("<I9", [0xFF, 0xFF, 0xFF, 0xFF, 0xFF, 0xFF, 0xFF, 0xFF, 0], [Value::Integer(-1)]);
     read("b", [200], [Value::Integer(-56)]);
     read("s1 z", b"\x02ABC\0", [Value::Text(b"AB"), Value::Text(b"C")]);
+    read("<!4bs4", [1, 7, 8, 9, 1, 0, 0, 0, b'A'], [Value::Integer(1), Value::Text(b"A")]);
     read("<f", [0, 0, 0xC0, 0x3F], [Value::Float(1.5)]);
     assert_eq!(unpack("", &[1], 2), Ok((none(), 2)));
     assert_eq!(unpack("b", &[1, 2], -1), Ok((values([2]), 3)));
@@ -71,6 +75,10 @@ fn every_format_refusal_comes() {
     }
     assert_eq!(number_of(packsize("c9223372036854775807b")), 9);
     assert_eq!(number_of(packsize("z")), 10);
+    assert_eq!(number_of(packsize("!4s3")), 10);
+    assert_eq!(number_of(list_bound("!4s3", 0)), 6);
+    assert_eq!(number_of(pack("!4s3", &values(["A"]))), 6);
+    assert_eq!(number_of(unpack("!4s3", b"\x01\0\0A", 1)), 6);
     assert_eq!(number_of(pack([0x80], &none())), 1);
 }
 
