@@ -28,7 +28,8 @@ pub enum Next {
 // The greatest length.
 pub const MAX_LENGTH: u64 = 0x7fff_ffff_ffff_ffff;
 
-// A sum of lengths that is counted up to the greatest one. No buffer is longer.
+// A sum of lengths that is counted up to the greatest one. No buffer is longer. Where the sum would wrap around, the total is
+// above that as it is.
 pub fn sum(total: u64, n: u64) -> u64
     requires { ⌜ n ≤ 2 ^ 63 - 1 ⌝ }
     ensures { λ r. ⌜ ((m : ℕ) → SameTo63 total m → SameTo63 r (m + n)) ⌝ }
