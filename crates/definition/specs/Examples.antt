@@ -309,7 +309,7 @@ length-prefixes =
     ∷ size-refused "!4s3" 10
     ∷ size-refused "!4s17" 3
     ∷ size-refused "!4Xs3" 7
-    -- 9 looks at the padding too, after 15
+    -- 9 counts the padding too, and comes after 6
     ∷ (continues (state false 2 (2 ^ 63 - 4)) (bytes "s2") (listOf (str "" ∷ [])) 2, accepted (data-continued (0 ∷ 0 ∷ []) 1 1 (state false 2 (2 ^ 63 - 2))))
     ∷ (continues (state false 2 (2 ^ 63 - 3)) (bytes "s2") (listOf (str "" ∷ [])) 3, refused 9)
     ∷ (continues (state false 4 (2 ^ 63 - 1)) (bytes "s3") [] 3, refused 6)
