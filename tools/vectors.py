@@ -245,7 +245,7 @@ def padding():
     for limit in POWERS:
         for natural in range(1, 17):
             least = min(natural, limit)
-            for length in (0, 1, 7, 14, (1 << 63) - 1):
+            for length in (0, 1, 7, 14, (1 << 63) - 1, (1 << 63) + 9, WORD - 1):
                 fill = -length % least
                 lines.append(line("a", natural, answer=least in POWERS, a=length, b=limit, c=fill if least in POWERS else 0))
     return lines

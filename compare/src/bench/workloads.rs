@@ -49,7 +49,7 @@ pub struct Workload {
     pub goal: Option<Goal>,
 }
 
-/// Those that a goal is set for.
+/// Those of the tables of goals, which some have none of.
 pub fn with_goals() -> Vec<Workload> {
     let mut all = measured();
     for kind in [Kind::Writing, Kind::Reading] {
@@ -59,23 +59,29 @@ pub fn with_goals() -> Vec<Workload> {
 }
 
 fn measured() -> Vec<Workload> {
-    let add = |name: &str, format: &str, goal: f64| Workload {
+    let add = |name: &str, format: &str, goal: Option<f64>| Workload {
         kind: Kind::Measuring,
         name: name.to_string(),
         format: format.to_string(),
         values: vec![],
-        goal: Some(Goal::Instructions(goal)),
+        goal: goal.map(Goal::Instructions),
     };
     vec![
-        add("`<!4 b i h I4 c9`", "<!4 b i h I4 c9", 0.55),
-        add("1,000 mixed items", &mixed(1000, false).0, 0.55),
-        add("`>I2I2B` 64 times", &issues(), 0.45),
-        add("64 f", &"f".repeat(64), 0.8),
+        add("`<!4 b i h I4 c9`", "<!4 b i h I4 c9", Some(0.55)),
+        add("1,000 mixed items", &mixed(1000, false).0, Some(0.55)),
+        add("`>I2I2B` 64 times", &issues(), Some(0.45)),
+        add("64 f", &"f".repeat(64), Some(0.8)),
+        add("`!8 i2i4i8 b` 64 times", &aligned(), None),
     ]
 }
 
 fn issues() -> String {
     format!(">{}", "I2I2B".repeat(64))
+}
+
+/// Three items of four that align.
+fn aligned() -> String {
+    format!("!8{}", " i2i4i8 b".repeat(64))
 }
 
 fn integers(integers: &[i64]) -> Vec<Value> {
@@ -99,12 +105,16 @@ pub fn issue() -> Vec<Value> {
 /// For writing, or for reading what was written.
 fn records(kind: Kind) -> Vec<Workload> {
     let goal = |writing: f64, reading: f64| Goal::Instructions(if kind == Kind::Writing { writing } else { reading });
-    let add = |name: &str, format: &str, values: Vec<Value>, goal: Goal| Workload {
+    let without_goal = |name: &str, format: &str, values: Vec<Value>| Workload {
         kind,
         name: name.to_string(),
         format: format.to_string(),
         values,
+        goal: None,
+    };
+    let add = |name: &str, format: &str, values: Vec<Value>, goal: Goal| Workload {
         goal: Some(goal),
+        ..without_goal(name, format, values)
     };
     let wide = vec![Value::Integer(1), Value::float(2.5), Value::float(-0.1), Value::Integer(-9), Value::Integer(12)];
     let texts = vec![text("a holder's name"), text("a station"), text("a profile of a pass")];
@@ -116,6 +126,7 @@ fn records(kind: Kind) -> Vec<Workload> {
         add("`>I2I2B` 64 times", &issues(), vec![issue(); 64].concat(), goal(0.6, 0.75)),
         add("1,000 mixed items", &many, many_values, goal(0.8, 1.0)),
         add("`s2`, a text of 60,000 bytes", "s2", vec![text(&"t".repeat(60_000))], Goal::Time(1.2)),
+        without_goal("`!8 i2i4i8 b` 64 times", &aligned(), vec![integers(&[-2, 4, -8, 1]); 64].concat()),
     ]
 }
 

@@ -1,18 +1,20 @@
--- Powers of two of 1 to 16 by their masks: a power has no bit in common with the number below it, and what a number has
--- below a power is its remainder.
-use Prim.Native.Nat.{ℕ, zero, suc, _+_, _-_, _%_, _^_, _≤_, _<_}
+-- Powers of two of 1 to 16 by their masks: a power has no bit in common with the number below it. So padding is told by the bits of an alignment.
+use Prim.Native.Nat.{ℕ, zero, suc, _+_, _-_, _≤_, _<_, min}
 use native.Mathlib.Nat.{zero-add, add-zero, le-of-suc-le-suc, not-suc-le-zero}
 use native.Mathlib.Omega.{arith}
-use mathlib.Core.Path.{_≡_, sym, _∙_}
-use mathlib.Core.Bool.{true, false}
+use mathlib.Core.Path.{_≡_, sym, ap, _∙_}
+use mathlib.Core.Bool.{false}
 use mathlib.Core.List.{List, [], _∷_}
 use lib.ListN.{getD}
-use lib.Bits.{bitAnd, and-mask}
+use lib.Bits.{bitAnd}
 use lib.Dec.{eqb, lit≤}
 use borrow.Author.Tests.{ne-eqb}
+use Rattle.definition.specs.Answers.{refused, accepted}
 use Rattle.definition.specs.Ops.{isPower}
-use Rattle.definition.specs.States.{fill}
-use Rattle.laws.proofs.Ops.{power-cases}
+use Rattle.definition.specs.States.{alignment, fill, padding}
+use Rattle.definition.specs.declared.State.{State}
+use Rattle.laws.proofs.Fills.{fill-of}
+use Rattle.laws.proofs.Ops.{power-least, power-most, Limited}
 
 -- f at i and the n - 1 numbers after it
 abbrev pub each : {A : Type 0} → (ℕ → A) → ℕ → ℕ → List A
@@ -31,14 +33,28 @@ power-mask n m e h = rw (e, ← zero-add m) (sym (get-each (λ k. eqb (bitAnd (s
 pub power-none : (n : ℕ) → (n ≡ 1 → ⊥) → (n ≡ 2 → ⊥) → (n ≡ 4 → ⊥) → (n ≡ 8 → ⊥) → (n ≡ 16 → ⊥) → isPower n ≡ false
 power-none n h1 h2 h4 h8 h16 = rw (ne-eqb n 1 h1, ne-eqb n 2 h2, ne-eqb n 4 h4, ne-eqb n 8 h8, ne-eqb n 16 h16)
 
-pub power-least : (a : ℕ) → isPower a ≡ true → 1 ≤ a
-power-least = power-cases (λ a. 1 ≤ a) (lit≤ tt) (lit≤ tt) (lit≤ tt) (lit≤ tt) (lit≤ tt)
+-- ---- padding, by the lesser a of a natural alignment and the limit
+module _ (s : State) (n a : ℕ) (is : a ≡ min n (s .limit)) (limited : Limited s) (natural : 1 ≤ n) where
+  from-1 : 1 ≤ a
+  from-1 = omega (arith, is, power-least (s .limit) limited)
 
--- w is 0 - n in 64 bits
-pub power-fill : (w n : ℕ) → (w + n) % 2 ^ 64 ≡ 0 → (a : ℕ) → isPower a ≡ true → bitAnd w (a - 1) ≡ fill a n
-power-fill w n e = power-cases (λ a. bitAnd w (a - 1) ≡ fill a n)
-    (and-mask w 0 ∙ omega arith)
-    (and-mask w 1 ∙ omega arith)
-    (and-mask w 2 ∙ omega arith)
-    (and-mask w 3 ∙ omega arith)
-    (and-mask w 4 ∙ omega arith)
+  to-16 : a ≤ 16
+  to-16 = omega (arith, is, power-most (s .limit) limited)
+
+  by-mask : isPower a ≡ eqb (bitAnd a (a - 1)) 0
+  by-mask = sym (power-mask a (a - 1) (omega (arith, from-1)) (omega (arith, to-16)))
+
+  pub unaligned : a < 2 → accepted 0 ≡ padding s n
+  unfolding alignment padding
+  unaligned h =
+      let one : a ≡ 1 = omega (arith, from-1, h) in
+      let none : 0 ≡ fill 1 (s .length) = omega (arith, fill-of 1 (s .length) (lit≤ tt) .below) in
+      rw (← is, one) (ap accepted none)
+
+  pub aligned : {p : ℕ} → bitAnd a (a - 1) ≡ 0 → p ≡ fill a (s .length) → accepted p ≡ padding s n
+  unfolding alignment padding
+  aligned e f = rw (← is, by-mask, e) (ap accepted f)
+
+  pub no-power : (bitAnd a (a - 1) ≡ 0 → ⊥) → refused 6 ≡ padding s n
+  unfolding alignment padding
+  no-power e = rw (← is, by-mask, ne-eqb (bitAnd a (a - 1)) 0 e)

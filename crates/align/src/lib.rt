@@ -11,6 +11,7 @@ ghost use Rattle.definition.specs.States as states;
 ghost use Rattle.definition.specs.Reading.{offsetIn, atOffset};
 ghost use Rattle.definition.specs.Ops.{isPower};
 ghost use Rattle.definition.specs.Calls.{atMost63};
+ghost use Rattle.laws.proofs.Ops.{Limited};
 ghost use Rattle.align.specs.Amounts.{amountOf, stateOf, SameTo63};
 
 // A number of bytes, or the number of a refusal.
@@ -140,16 +141,28 @@ pub fn alignment(s: State, natural: u64) -> Amount
     }
 }
 
-// The zeros that bring the state to a natural alignment, or 6: what the negated length has below the power of two.
+// The fill: the least number that takes n to a multiple of a, from one remainder. The compiler makes a mask of it where it sees
+// that a is a power of two.
+fn fill(a: u64, n: u64) -> u64
+    requires { ⌜ 1 ≤ a ⌝ }
+    ensures { λ r. ⌜ r ≡ states.fill a n ⌝ }
+{
+    let r = n % a;
+    if r == 0 { 0 } else { a - r }
+}
+
+// The zeros that bring the state to a natural alignment, or 6. Of what doesn't align no remainder is worked out. No limit is
+// above 16, so the bits of an alignment alone tell whether it is a power of two.
 pub fn padding(s: State, natural: u64) -> Amount
+    requires { ⌜ Limited s ⌝ ∗ ⌜ 1 ≤ natural ⌝ }
     ensures { λ r. ⌜ amountOf r ≡ states.padding s natural ⌝ }
 {
     let a = lesser(natural, s.limit);
-    if a == 1 {
+    if a < 2 {
         return Amount::Bytes(0);
     }
-    if is_power(a) {
-        return Amount::Bytes(std::num::wrapping_sub_u64(0, s.length) & (a - 1));
+    if a & (a - 1) == 0 {
+        return Amount::Bytes(fill(a, s.length));
     }
     Amount::Refused(6)
 }

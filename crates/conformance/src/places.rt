@@ -18,8 +18,14 @@ pub fn is_start(v: Vector) -> bool {
     }
 }
 
-// The zeros before what has a natural alignment, at a limit and a length, or 6.
+// The zeros before what has a natural alignment, at a limit that a state can have and a length, or 6.
 pub fn is_padding(v: Vector) -> bool {
+    if !align::is_power(v.b) {
+        return false;
+    }
+    if v.size == 0 {
+        return false;
+    }
     match align::padding(state(false, v.b, v.a), v.size as u64) {
         Amount::Bytes(n) => v.answers & (n == v.c),
         Amount::Refused(k) => !v.answers & (k == 6),

@@ -1,5 +1,5 @@
 -- What P1 to P14 and the tables of Entries leave out: traps, the order of checks, both sides of every boundary. A table for each subject; its answers are the documents', and it holds by computation, of long texts by laws.
-use Prim.Native.Nat.{ℕ, zero, suc, _-_, _^_, _≤_, _<_}
+use Prim.Native.Nat.{ℕ, zero, suc, _+_, _-_, _^_, _≤_, _<_}
 use mathlib.Core.Path.{_≡_, refl}
 use mathlib.Core.Bool.{true, false}
 use mathlib.Core.List.{List, [], _∷_, _++_, map}
@@ -18,7 +18,7 @@ use Rattle.definition.specs.Lists.{listOf, fieldOf, valuesPast, fieldsAf
 use Rattle.definition.specs.Options.{entryList, options}
 use Rattle.definition.specs.Items.{digits, nextByte, taken, itemsPast, value, numeralOf}
 use Rattle.definition.specs.Ops.{opOf}
-use Rattle.definition.specs.States.{state, start, longer, alignment, padding}
+use Rattle.definition.specs.States.{state, start, longer, alignment, fill, padding}
 use Rattle.definition.specs.Fields.{word, encode, short, upToZero, number, decode, kept}
 use Rattle.definition.specs.Measuring.{measureOp, measure}
 use Rattle.definition.specs.Writing.{Cell, pad, byte, writeField, writeOp}
@@ -87,6 +87,22 @@ aligning =
     -- a place that is a multiple is not filled up
     ∷ size-gives "!4ibi" 12
     ∷ size-gives "!4iXi" 4
+    ∷ []
+
+-- the fill of an alignment, an offset being a multiple of it or not: also where the alignment is no power of two or the offset above 2^63-1
+abbrev fills : List (ℕ × ℕ)
+fills =
+    (fill 1 7, 0)
+    ∷ (fill 2 0, 0)
+    ∷ (fill 2 1, 1)
+    ∷ (fill 8 8, 0)
+    ∷ (fill 8 9, 7)
+    ∷ (fill 8 15, 1)
+    ∷ (fill 16 17, 15)
+    ∷ (fill 16 24, 8)
+    ∷ (fill 3 7, 2)
+    ∷ (fill 16 (2 ^ 63 + 1), 15)
+    ∷ (fill 8 (2 ^ 64 - 1), 1)
     ∷ []
 
 -- lengths up to 2^63-1; padding counts
@@ -637,6 +653,7 @@ inputs =
 pub record Examples : Type 0 where
   pub of-numerals : Hold numerals
   pub of-aligning : Hold aligning
+  pub of-fills : Same fills
   pub of-measures : Hold measures
   pub of-list-bounds : Hold list-bounds
   pub of-settings : Hold settings
@@ -678,6 +695,7 @@ examples =
     record {
       of-numerals = refl;
       of-aligning = refl;
+      of-fills = refl;
       of-measures = refl;
       of-list-bounds = refl;
       of-settings = refl;

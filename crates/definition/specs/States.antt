@@ -1,7 +1,7 @@
 -- The state between items, and alignment.
 use Prim.Native.Nat.{ℕ, _+_, _-_, _^_, _%_, min}
-use mathlib.Core.Bool.{Bool, false}
-use lib.Dec.{leb}
+use mathlib.Core.Bool.{Bool, false, cond}
+use lib.Dec.{leb, eqb}
 use Rattle.definition.specs.Answers.{Checked, accepted, _>>=_, _>>_, require}
 use Rattle.definition.specs.Ops.{isPower}
 use Rattle.definition.specs.declared.State.{State}
@@ -47,9 +47,9 @@ alignment s n = do
   require (isPower (min n (s .limit))) 6
   accepted (min n (s .limit))
 
--- the least number that takes n to a multiple of a
+-- "work the fill out from one remainder": the least number that takes n to a multiple of a
 abbrev pub fill : ℕ → ℕ → ℕ
-fill a n = (a - n % a) % a
+fill a n = let r = n % a in cond (eqb r 0) 0 (a - r)
 
 -- "zeros fill up": how many, before what has this natural alignment
 unfoldable pub padding : State → ℕ → Checked ℕ

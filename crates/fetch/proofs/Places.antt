@@ -4,7 +4,7 @@ use native.Mathlib.Omega.{arith}
 use mathlib.Core.Path.{_≡_, refl, sym, ap, _∙_}
 use mathlib.Core.Bool.{Bool}
 use mathlib.Core.List.{List, [], _∷_}
-use lib.Dec.{T}
+use lib.Dec.{T, lit≤}
 use lib.ListN.{length, take, drop, length-drop}
 use lib.Seq.{drop-drop}
 use types.Run.{OneOf, miss}
@@ -15,6 +15,7 @@ use Rattle.definition.specs.Values.{Value}
 use Rattle.definition.specs.States.{set, further, natural, padding}
 use Rattle.definition.specs.Writing.{Place, place}
 use Rattle.definition.specs.Reading.{Read, valuesOf, atOffset, skipped, readField, readOp}
+use Rattle.laws.proofs.Ops.{Limited, set-limited, validSetting}
 use Rattle.laws.proofs.Traces.{mapOut, readValue}
 use Rattle.definition.specs.declared.State.{State}
 use Rattle.definition.specs.declared.Offset.{Offset}
@@ -103,26 +104,26 @@ module _ (d : List ℕ) (s : State) (stands : Stands d s) where
   unfolding readOp
   blank-op = record { says = refl; stands = stands }
 
-  set-stands : (x : Setting) → Stands d (set x s)
-  set-stands (Setting.Order o) = stands
-  set-stands (Setting.Limit n) = stands
+  set-stands : (x : Setting) → T (validSetting x) → Stands d (set x s)
+  set-stands (Setting.Order o) ok = stands
+  set-stands (Setting.Limit n) ok = (stands .0, set-limited (Setting.Limit n) s ok (stands .1))
 
   set-place : (x : Setting) → placeIn d (set x s) ≡ place (set x s) (drop (s .length) d)
   set-place (Setting.Order o) = refl
   set-place (Setting.Limit n) = refl
 
-  pub set-op : (x : Setting) {t : State} → t ≡ set x s → Fetches d s (Op.Set x) (Fetched.Set t)
+  pub set-op : (x : Setting) {t : State} → T (validSetting x) → t ≡ set x s → Fetches d s (Op.Set x) (Fetched.Set t)
   unfolding readOp
-  set-op x e = rw e (record { says = ap (λ (q : Place ℕ). accepted (q, [])) (set-place x); stands = set-stands x })
+  set-op x ok e = rw e (record { says = ap (λ (q : Place ℕ). accepted (q, [])) (set-place x); stands = set-stands x ok })
 
 module _ {d : List ℕ} {s : State} {n k : ℕ} where
   pub pad-op-refused : {j : ℕ} → Skips d s n k (Skipped.Refused j) → Fetches d s (Op.Pad n k) (Fetched.Refused j)
   unfolding readOp
   pad-op-refused p = record { says = rw (← p .says); stands = tt }
 
-  pub pad-op : {o : Offset} {t : State} → Skips d s n k (Skipped.To o) → t ≡ atOffset s o → Fetches d s (Op.Pad n k) (Fetched.Set t)
+  pub pad-op : {o : Offset} {t : State} → Limited s → Skips d s n k (Skipped.To o) → t ≡ atOffset s o → Fetches d s (Op.Pad n k) (Fetched.Set t)
   unfolding readOp
-  pad-op p e = rw e (record { says = rw (← p .says); stands = p .inside })
+  pad-op h p e = rw e (record { says = rw (← p .says); stands = (p .inside, h) })
 
 -- ---- by the variant
 -- by the tags of c and z
@@ -131,6 +132,13 @@ unaligned-tag (Field.Number k n) h = absurd (miss (1 ∷ 2 ∷ []) 0 tt h)
 unaligned-tag (Field.Chars n) h = tt
 unaligned-tag Field.ZeroEnded h = tt
 unaligned-tag (Field.Counted n) h = absurd (miss (1 ∷ 2 ∷ []) 3 tt h)
+
+-- c and z align by 1
+pub unaligned-natural : (f : Field) → T (isUnaligned f) → 1 ≤ natural f
+unaligned-natural (Field.Number k n) h = absurd h
+unaligned-natural (Field.Chars n) h = lit≤ tt
+unaligned-natural Field.ZeroEnded h = lit≤ tt
+unaligned-natural (Field.Counted n) h = absurd h
 
 -- what is not c
 pub zero-ended-left : (f : Field) → T (isUnaligned f) → OneOf (0 ∷ 2 ∷ 3 ∷ []) (tagOf the-type f) → f ≡ Field.ZeroEnded

@@ -6,6 +6,7 @@ use Rattle.definition.specs.Answers.{Checked, refused, accepted}
 use Rattle.definition.specs.Values.{Value}
 use Rattle.definition.specs.Writing.{Place, place}
 use Rattle.definition.specs.Reading.{offset, offsetIn, atOffset, readPad}
+use Rattle.laws.proofs.Ops.{Limited}
 use Rattle.laws.proofs.Traces.{readValue}
 use Rattle.definition.specs.declared.State.{State}
 use Rattle.definition.specs.declared.Offset.{Offset}
@@ -18,9 +19,9 @@ use Rattle.fetch.specs.declared.Fetched.{Fetched}
 use Rattle.fetch.specs.declared.Fetched.the-variants as Fetched
 use Rattle.decode.specs.Readings.{from, Within, valueOf, Inside}
 
--- a state in the data d
+-- a state in the data d, its limit a power of two
 abbrev pub Stands : List ℕ → State → Type 0
-Stands d s = Within d (offsetIn s)
+Stands d s = Within d (offsetIn s) × Limited s
 
 -- the place in d at a state
 abbrev pub placeIn : List ℕ → State → Place ℕ

@@ -20,10 +20,10 @@ use definition::State;
 use position::further;
 use position::left;
 ghost use mathlib.Core.Path.{_≡_};
+ghost use Prim.Native.Nat.{_≤_};
 ghost use lib.Dec.{T};
 ghost use Rattle.definition.specs.declared.Field.the-variants as fields;
 ghost use Rattle.definition.specs.declared.Op.the-variants as ops;
-ghost use Rattle.laws.proofs.Numbers.{validSize};
 ghost use Rattle.laws.proofs.Fields.{validField};
 ghost use Rattle.laws.proofs.Ops.{validOp};
 ghost use Rattle.decode.specs.Readings.{isUnaligned};
@@ -46,7 +46,7 @@ pub enum Fetched {
 
 // Past an alignment by n, and k bytes: 6, 17.
 fn read_pad(data: &[u8], s: State, n: u64, k: u64) -> Skipped
-    requires { ⌜ Stands (now «data») s ⌝ }
+    requires { ⌜ Stands (now «data») s ⌝ ∗ ⌜ 1 ≤ n ⌝ }
     ensures { λ r. ⌜ Skips (now («data» .entry)) s n k r ⌝ }
 {
     match padding(s, n) {
@@ -78,7 +78,7 @@ fn after(at: Offset, x: Decoded) -> Fetched
 
 // A number: its alignment, then its value.
 fn read_number(data: &[u8], s: State, kind: Kind, size: u64) -> Fetched
-    requires { ⌜ Stands (now «data») s ⌝ ∗ ⌜ T (validSize kind size) ⌝ }
+    requires { ⌜ Stands (now «data») s ⌝ ∗ ⌜ T (validField (fields.Number kind size)) ⌝ }
     ensures { λ r. ⌜ Fetches (now («data» .entry)) s (ops.Put (fields.Number kind size)) r ⌝ }
 {
     match read_pad(data, s, natural(Field::Number(kind, size)), 0) {
@@ -89,7 +89,7 @@ fn read_number(data: &[u8], s: State, kind: Kind, size: u64) -> Fetched
 
 // s: the alignment of its length, then its value.
 fn read_counted(data: &[u8], s: State, size: u64) -> Fetched
-    requires { ⌜ Stands (now «data») s ⌝ }
+    requires { ⌜ Stands (now «data») s ⌝ ∗ ⌜ T (validField (fields.Counted size)) ⌝ }
     ensures { λ r. ⌜ Fetches (now («data» .entry)) s (ops.Put (fields.Counted size)) r ⌝ }
 {
     match read_pad(data, s, natural(Field::Counted(size)), 0) {

@@ -27,7 +27,7 @@ use Rattle.definition.specs.declared.Op.{Op}
 use Rattle.definition.specs.declared.Continued.{Continued}
 use Rattle.laws.proofs.Answers.{never, same, same-number, bound, passed, by-steps, both-parts}
 use Rattle.laws.proofs.Lists.{values-after}
-use Rattle.laws.proofs.Ops.{validOp, validSetting, Valid, options-sizes, ops-valid}
+use Rattle.laws.proofs.Ops.{Limited, validOp, validSetting, Valid, options-sizes, ops-valid}
 use Rattle.laws.proofs.Steps.{Step, blank, sets, pads-out, puts, step-of}
 use Rattle.laws.proofs.Refusals.{ByCall, low-ops, low-writing, low-pack, low-unpack, low-tray, refuses-not}
 
@@ -118,6 +118,9 @@ pack-run s f l vs h e = rw (h, e)
 pub set-sound : (x : Setting) (s : State) → T (validSetting x) → Sound s → Sound (set x s)
 set-sound (Setting.Order o) s ok h = h
 set-sound (Setting.Limit n) s ok h = both-true (isPower n) (atMost63 (s .length)) (is-true (isPower n) ok) (both-parts (isPower (s .limit)) (atMost63 (s .length)) h .1)
+
+pub sound-limited : (s : State) → Sound s → Limited s
+sound-limited s h = both-parts (isPower (s .limit)) (atMost63 (s .length)) h .0
 
 longer-sound : (s : State) (n : ℕ) → Sound s → atMost63 n ≡ true → (isPower (s .limit) && atMost63 n) ≡ true
 longer-sound s n h w = both-true (isPower (s .limit)) (atMost63 n) (both-parts (isPower (s .limit)) (atMost63 (s .length)) h .0) w

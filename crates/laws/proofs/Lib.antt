@@ -10,6 +10,7 @@ pub mod Texts
 pub mod Numbers
 pub mod Fields
 pub mod Ops
+pub mod Fills
 pub mod Steps
 pub mod ReadBack
 pub mod Size

@@ -1,15 +1,18 @@
 -- Each checked item has a size that its option has, by one test over the option table.
-use Prim.Native.Nat.{ℕ}
+use Prim.Native.Nat.{ℕ, _≤_}
 use mathlib.Core.Path.{_≡_, refl, sym, subst}
 use mathlib.Core.Bool.{Bool, true, false, _&&_, _||_, cond}
 use mathlib.Core.List.{List, [], _∷_, map}
-use lib.Dec.{T, leb, eqb, eqb→eq}
-use mir.Facts.{and-yes}
+use lib.Dec.{T, leb, ltb, eqb, eqb→eq, leb→le, lit≤}
+use lib.Ieee.Bits.{is-true}
+use mir.Facts.{and-yes, yes-and}
 use Rattle.definition.specs.Answers.{Checked, accepted, _>>_, require}
 use Rattle.definition.specs.Options.{entryList, find, Table, options, Class, NumeralRule, Nothing, Digits, DigitsBehindX, NextByte, Entry}
 use Rattle.definition.specs.Items.{Item, items, numeralOf, Numeral, Missing}
-use Rattle.definition.specs.Ops.{opOf, ops, opBy, opWith, naturalOf, sizeOr, limitOr, needed, valueOr, within16, isPower}
+use Rattle.definition.specs.Ops.{opOf, ops, opBy, opWith, naturalOf, sizeOr, limitOr, needed, valueOr, numberNatural, naturalBy, within16, isPower}
+use Rattle.definition.specs.States.{set}
 use Rattle.definition.specs.Options as Class
+use Rattle.definition.specs.declared.State.{State}
 use Rattle.definition.specs.declared.Kind.{Kind}
 use Rattle.definition.specs.declared.Kind.the-variants.{SmallSigned, SmallUnsigned, Signed, Unsigned, LuaInteger, LuaUnsigned, Size, Single, Double}
 use Rattle.definition.specs.declared.Field.the-variants.{Number, Chars, Counted}
@@ -36,15 +39,35 @@ power-cases P p1 p2 p4 p8 p16 a = or 1 _ p1 (or 2 _ p2 (or 4 _ p4 (or 8 _ p8 (is
         go true e h = is k p e
         go false e h = f h
 
+pub power-least : (a : ℕ) → isPower a ≡ true → 1 ≤ a
+power-least = power-cases (λ a. 1 ≤ a) (lit≤ tt) (lit≤ tt) (lit≤ tt) (lit≤ tt) (lit≤ tt)
+
+pub power-most : (a : ℕ) → isPower a ≡ true → a ≤ 16
+power-most = power-cases (λ a. a ≤ 16) (lit≤ tt) (lit≤ tt) (lit≤ tt) (lit≤ tt) (lit≤ tt)
+
 abbrev pub validSetting : Setting → Bool
 validSetting (Setting.Order o) = true
 validSetting (Setting.Limit n) = isPower n
 
+-- a state whose limit is a power of two of 1 to 16: the start state has one, and ! sets no other
+abbrev pub Limited : State → Type 0
+Limited s = isPower (s .limit) ≡ true
+
+pub set-limited : (x : Setting) (s : State) → T (validSetting x) → Limited s → Limited (set x s)
+set-limited (Setting.Order o) s ok h = h
+set-limited (Setting.Limit n) s ok h = is-true (isPower n) ok
+
 abbrev pub validOp : Op → Bool
 validOp Op.Blank = true
 validOp (Op.Set x) = validSetting x
-validOp (Op.Pad n k) = leb k 1
+validOp (Op.Pad n k) = leb 1 n && leb k 1
 validOp (Op.Put f) = validField f
+
+-- what aligns, and adds no byte or one
+pub pad-valid : {o : Op} {n k : ℕ} → T (validOp o) → o ≡ Op.Pad n k → (1 ≤ n) × (k ≤ 1)
+pad-valid {o} {n} {k} h e =
+    let b = and-yes (leb 1 n) (leb k 1) (subst (λ (x : Op). T (validOp x)) e h) in
+    (leb→le 1 n (b .0), leb→le k 1 (b .1))
 
 -- i I l L have any size of 1 to 16
 abbrev anySize : Kind → Bool
@@ -109,6 +132,9 @@ size-within d m n e =
     let p = passed (within16 (b .val)) 3 (accepted (b .val)) (b .rest) in
     subst (λ (x : ℕ). T (within16 x)) (same (p .1)) (subst T (sym (p .0)) tt)
 
+size-least : (d : ℕ) (m : Numeral) (n : ℕ) → sizeOr d m ≡ accepted n → T (leb 1 n)
+size-least d m n e = and-yes (leb 1 n) (leb n 16) (size-within d m n e) .0
+
 limit-power : (d : ℕ) (m : Numeral) (n : ℕ) → limitOr d m ≡ accepted n → T (isPower n)
 limit-power d m n e =
     let b = bound (valueOr d m) (λ x. require (within16 x) 4 >> (require (isPower x) 5 >> accepted x)) e in
@@ -143,7 +169,7 @@ by-class Class.Limit d m o h e =
     subst Good (same (b .rest)) (limit-power d m (b .val) (b .is))
 by-class (Class.Number k) d m o h e =
     let b = bound (sizeOr d m) (λ n. accepted (Op.Put (Number k n))) e in
-    subst Good (same (b .rest)) (h k refl (b .val) (b .is))
+    subst Good (same (b .rest)) (yes-and (leb 1 (b .val)) (validSize k (b .val)) (size-least d m (b .val) (b .is)) (h k refl (b .val) (b .is)))
 by-class Class.Chars d m o h e = subst Good (same (bound (needed m) (λ n. accepted (Op.Put (Chars n))) e .rest)) tt
 by-class Class.ZeroEnded d m o h e = subst Good (same e) tt
 by-class Class.Counted d m o h e =
@@ -160,12 +186,37 @@ own-size c r d f h k e n s =
     let g : T (sizesOk r k d) = and-yes (within16 d) (sizesOk r k d) (subst (λ (x : Class). T (entryOk x r d)) e h) .1 in
     subst (λ (x : ℕ). T (validSize k x)) (missing-size d n s) (f k g)
 
-by-rule : (t : Table) (r : NumeralRule) (e : Entry) (s : List ℕ) (o : Op) → T (entryOk (e .class) r (e .size)) → opWith t r e s ≡ accepted o → T (validOp o)
-by-rule t Nothing e s o h i = by-class (e .class) (e .size) Missing o (own-size (e .class) Nothing (e .size) (λ k g. g) h) i
-by-rule t Digits e s o h i =
+-- X aligns by 1 at least
+number-natural : (r : NumeralRule) (n : ℕ) (m : Numeral) (a : ℕ) → T (leb 1 n) → numberNatural r n m ≡ accepted a → T (leb 1 a)
+number-natural Nothing n m a h e = subst (λ (x : ℕ). T (leb 1 x)) (same e) h
+number-natural Digits n m a h e = size-least n m a e
+number-natural DigitsBehindX n m a h e = subst (λ (x : ℕ). T (leb 1 x)) (same e) h
+number-natural NextByte n m a h e = subst (λ (x : ℕ). T (leb 1 x)) (same e) h
+
+natural-by : (c : Class) (r : NumeralRule) (n : ℕ) (m : Numeral) (a : ℕ) → T (entryOk c r n) → naturalBy c r n m ≡ accepted a → T (leb 1 a)
+natural-by Class.NoOption r n m a h e = subst (λ (x : ℕ). T (leb 1 x)) (same e) tt
+natural-by Class.Blank r n m a h e = absurd (never e)
+natural-by (Class.Order o) r n m a h e = absurd (never e)
+natural-by Class.Limit r n m a h e = absurd (never e)
+natural-by (Class.Number k) r n m a h e = number-natural r n m a (and-yes (leb 1 n) (leb n 16) (and-yes (within16 n) (sizesOk r k n) h .0) .0) e
+natural-by Class.Chars r n m a h e = absurd (never e)
+natural-by Class.ZeroEnded r n m a h e = absurd (never e)
+natural-by Class.Counted r n m a h e = absurd (never e)
+natural-by Class.Fill r n m a h e = absurd (never e)
+natural-by Class.Align r n m a h e = absurd (never e)
+
+natural-least : (t : Table) → Sizes t → (s : List ℕ) (a : ℕ) → naturalOf t s ≡ accepted a → T (leb 1 a)
+natural-least t h [] a e = absurd (never e)
+natural-least t h (c ∷ s) a e = natural-by (t c .class) (t c .rule) (t c .size) (numeralOf s) a (h c) (passed (ltb c 128) 1 (naturalBy (t c .class) (t c .rule) (t c .size) (numeralOf s)) e .1)
+
+by-rule : (t : Table) → Sizes t → (r : NumeralRule) (e : Entry) (s : List ℕ) (o : Op) → T (entryOk (e .class) r (e .size)) → opWith t r e s ≡ accepted o → T (validOp o)
+by-rule t z Nothing e s o h i = by-class (e .class) (e .size) Missing o (own-size (e .class) Nothing (e .size) (λ k g. g) h) i
+by-rule t z Digits e s o h i =
     by-class (e .class) (e .size) (numeralOf s) o (λ k c n m. any-size k n (and-yes (within16 (e .size)) (anySize k) (subst (λ (x : Class). T (entryOk x Digits (e .size))) c h) .1) (size-within (e .size) (numeralOf s) n m)) i
-by-rule t DigitsBehindX e s o h i = by-class (e .class) (e .size) Missing o (own-size (e .class) DigitsBehindX (e .size) (λ k g. g) h) i
-by-rule t NextByte e s o h i = subst Good (same (bound (naturalOf t s) (λ n. accepted (Op.Pad n 0)) i .rest)) tt
+by-rule t z DigitsBehindX e s o h i = by-class (e .class) (e .size) Missing o (own-size (e .class) DigitsBehindX (e .size) (λ k g. g) h) i
+by-rule t z NextByte e s o h i =
+    let b = bound (naturalOf t s) (λ n. accepted (Op.Pad n 0)) i in
+    subst Good (same (b .rest)) (yes-and (leb 1 (b .val)) true (natural-least t z s (b .val) (b .is)) tt)
 
 -- each checked item has a size that its option has, and a limit that is a power of two
 abbrev pub Valid : Checked Op → Type 0
@@ -173,7 +224,7 @@ Valid c = (o : Op) → c ≡ accepted o → T (validOp o)
 
 pub op-valid : (t : Table) → Sizes t → (i : Item) → Valid (opOf t i)
 unfolding opOf
-op-valid t h i o e = by-rule t (t (i .byte) .rule) (t (i .byte)) (i .more) o (h (i .byte)) e
+op-valid t h i o e = by-rule t h (t (i .byte) .rule) (t (i .byte)) (i .more) o (h (i .byte)) e
 
 pub ops-valid : (t : Table) → Sizes t → (f : List ℕ) → All Valid (ops t f)
 ops-valid t h f = go (items t f)

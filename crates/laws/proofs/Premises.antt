@@ -50,6 +50,7 @@ needed = record {
   not-returned = refl;
   room-for-record = refl;
   digits-lost = refl;
+  no-alignment = λ h. omega (arith, h);
 }
 
 pub divided : Divided

@@ -95,7 +95,7 @@ abbrev pub Near : ℕ → ℕ → Type 0
 Near x y = x % 16 ≡ y % 16
 
 fill-near : (a x y : ℕ) → Near x y → isPower a ≡ true → fill a x ≡ fill a y
-fill-near a x y h = power-cases (λ b. fill b x ≡ fill b y) (omega arith) (omega arith) (omega arith) (omega arith) (omega arith) a
+fill-near a x y h p = rw (power-cases (λ b. x % b ≡ y % b) (omega arith) (omega arith) (omega arith) (omega arith) (omega arith) a p)
 
 padding-near : (s : State) (m n p : ℕ) → Near m (s .length) → padding s n ≡ accepted p → padding (placed m s) n ≡ accepted p
 unfolding alignment padding

@@ -1,4 +1,5 @@
--- Demand 3, and what else is claimed of the calls of definition's specs/Calls.antt, which the contracts of the code name. `Demand`, `Returned`, `Rooms`, `Numbered`, `Bounded` and `Decimals` are the claims: statements without free variables. docs/DEMAND.md says where each is proved.
+-- Demand 3, and what else is claimed of the calls of definition's specs/Calls.antt, which the contracts of the code name, and of the fill. The claims are `Demand`, `Continuing`, `Returned`, `Rooms`,
+-- `Numbered`, `Bounded`, `Decimals` and `Fills`: statements without free variables. docs/DEMAND.md says where each is proved.
 use Prim.Native.Nat.{ℕ, _+_, _-_, _%_, _^_, _≤_, _<_}
 use mathlib.Core.Path.{_≡_}
 use mathlib.Core.Bool.{Bool, true, false, _||_, cond}
@@ -16,7 +17,7 @@ use Rattle.definition.specs.Options.{options}
 use Rattle.definition.specs.Ops.{ops}
 use Rattle.definition.specs.Values.{Value, asInteger}
 use Rattle.definition.specs.Lists.{fieldsAfter}
-use Rattle.definition.specs.States.{start}
+use Rattle.definition.specs.States.{start, fill}
 use Rattle.definition.specs.Measuring.{measureFrom}
 use Rattle.definition.specs.Writing.{Cell, pad, byte}
 use Rattle.definition.specs.Reading.{offset, positionOf}
@@ -235,3 +236,13 @@ Bounded = (f d : List ℕ) (p : ℤ) (b : List ℕ) (u : Unpacked) → stringUnp
 -- "prints `size ` and the measure, or `refused ` and the number": the digits printed write the number, if it has at most twenty
 abbrev pub Decimals : Type 0
 Decimals = (n : ℕ) → n < 10 ^ 20 → value 0 (decimal n) ≡ n
+
+-- "show for every offset that it is the least reaching a multiple of the alignment": the fill of the offset n
+pub record FillOf (a n : ℕ) : Type 0 where
+  pub below : fill a n < a
+  pub reaches : (n + fill a n) % a ≡ 0
+  pub least : (m : ℕ) → (n + m) % a ≡ 0 → fill a n ≤ m
+
+-- every alignment above 0, not only those that occur, and every offset of any size
+abbrev pub Fills : Type 0
+Fills = (a n : ℕ) → 1 ≤ a → FillOf a n

@@ -4,12 +4,14 @@ use mathlib.Core.Path.{_≡_, refl, sym, ap, _∙_}
 use mathlib.Core.List.{List}
 use mathlib.Core.Option.{some}
 use native.Mathlib.Omega.{arith}
+use lib.Dec.{T}
 use lib.ListN.{length, drop}
 use Rattle.definition.specs.Answers.{Checked, refused, accepted, _>>=_, run, silent, runSilent}
 use Rattle.definition.specs.Options.{Table}
 use Rattle.definition.specs.Ops.{ops}
 use Rattle.definition.specs.declared.State.{State}
 use Rattle.definition.specs.declared.Op.{Op}
+use Rattle.laws.proofs.Ops.{Sizes, validOp}
 use Rattle.align.specs.Amounts.{stateOf}
 use Rattle.align.specs.declared.Next.{Next}
 use Rattle.align.specs.declared.Next.the-variants as Stepped
@@ -18,7 +20,7 @@ use Rattle.format.specs.declared.cursor.Cursor.{Cursor}
 use Rattle.format.specs.declared.cursor.Item.{Item}
 use Rattle.format.specs.declared.cursor.Next as cursor
 use Rattle.format.specs.declared.cursor.Next.the-variants as Read
-use Rattle.format.proofs.Walking.{Walked, ahead, walk-none, walk-end, walk-refusal, walk-refused, walk-on}
+use Rattle.format.proofs.Walking.{Walked, valid, ahead, walk-none, walk-end, walk-refusal, walk-refused, walk-on}
 
 -- nothing, joined with nothing
 abbrev none-more : Unit {0} → Unit {0} → Unit {0}
@@ -57,6 +59,9 @@ module _ {step : State → Op → Checked State} {t : Table} {f : List ℕ} {at 
       module _ {i : Item} {d : Cursor} (e : x ≡ Read.Item i d) {o : Op} (p : o ≡ opAt (i .entry) (i .operand)) where
         item : nextAt t at (drop at f) ≡ accepted (some (o, d .at))
         item = sym n ∙ ap nextOf e ∙ ap (λ (j : Op). accepted (some (j, d .at))) (sym p)
+
+        pub run-valid : Sizes t → T (validOp o)
+        run-valid sizes = valid t f at item sizes
 
         pub run-less : length f - d .at < length f - at
         run-less = omega (arith, ahead t f at item)

@@ -14,9 +14,12 @@ use format::cursor::Cursor;
 use format::cursor::Next;
 use options::table;
 ghost use mathlib.Core.Path.{_≡_};
+ghost use Prim.Native.Nat.{_≤_};
+ghost use lib.Dec.{T};
 ghost use Rattle.definition.specs.Measuring.{sizeOf, measurePad, measureOp, measureFrom};
 ghost use Rattle.definition.specs.Calls.{stringPacksize};
-ghost use Rattle.laws.proofs.Ops.{Sizes};
+ghost use Rattle.laws.proofs.Fields.{validField};
+ghost use Rattle.laws.proofs.Ops.{Limited, Sizes, validOp};
 ghost use Rattle.align.specs.Amounts.{amountOf, stateOf};
 ghost use Rattle.options.specs.Packed.{tableAt};
 ghost use Rattle.measure.specs.Fields.{measureField};
@@ -30,6 +33,7 @@ pub enum Measured {
 
 // The state after an alignment and n bytes. Mostly there is nothing to fill up.
 fn measure_pad(s: State, natural: u64, n: u64) -> Stepped
+    requires { ⌜ Limited s ⌝ ∗ ⌜ 1 ≤ natural ⌝ }
     ensures { λ r. ⌜ stateOf r ≡ measurePad s natural n ⌝ }
 {
     match padding(s, natural) {
@@ -60,6 +64,7 @@ fn size_of(f: Field) -> Amount
 
 // The state after a field.
 fn measure_field(s: State, f: Field) -> Stepped
+    requires { ⌜ Limited s ⌝ ∗ ⌜ T (validField f) ⌝ }
     ensures { λ r. ⌜ stateOf r ≡ measureField s f ⌝ }
 {
     match size_of(f) {
@@ -70,6 +75,7 @@ fn measure_field(s: State, f: Field) -> Stepped
 
 // The state after an item.
 fn measure_op(s: State, op: Op) -> Stepped
+    requires { ⌜ Limited s ⌝ ∗ ⌜ T (validOp op) ⌝ }
     ensures { λ r. ⌜ stateOf r ≡ measureOp s op ⌝ }
 {
     match op {
@@ -82,7 +88,7 @@ fn measure_op(s: State, op: Op) -> Stepped
 
 // The state that a format leads to from a state, by the table that is lent.
 fn measure_from(table: &[u8; 256], format: &[u8], from: State) -> Stepped
-    requires { ⌜ Sizes (tableAt (now table)) ⌝ }
+    requires { ⌜ Sizes (tableAt (now table)) ⌝ ∗ ⌜ Limited from ⌝ }
     ensures { λ r. ⌜ stateOf r ≡ measureFrom (tableAt (now (table .entry))) from (now (format .entry)) ⌝ }
 {
     let mut c = Cursor::new();

@@ -30,7 +30,8 @@ use Rattle.laws.proofs.Bytes.{length-laid}
 use Rattle.laws.proofs.Calls.{Sound}
 use Rattle.laws.proofs.Fields.{validField}
 use Rattle.laws.proofs.Numbers.{validSize}
-use Rattle.laws.proofs.Ops.{power-cases, validOp}
+use Rattle.laws.proofs.Fills.{fill-of}
+use Rattle.laws.proofs.Ops.{power-least, power-most, validOp}
 use Rattle.laws.proofs.Steps.{room-longer}
 use Rattle.values.specs.Meaning.{meaning, FieldRead}
 use Rattle.values.specs.declared.Field.the-variants as Found
@@ -55,7 +56,7 @@ padding-lt s n p e =
     subst (λ (x : ℕ). x < 16) (same (b .rest)) (below (b .val) (subst (λ (x : ℕ). isPower x ≡ true) (same (c .1)) (c .0)))
   where
     below : (a : ℕ) → isPower a ≡ true → fill a (s .length) < 16
-    below = power-cases (λ a. fill a (s .length) < 16) (omega arith) (omega arith) (omega arith) (omega arith) (omega arith)
+    below a h = omega (arith, fill-of a (s .length) (power-least a h) .below, power-most a h)
 
 pub sound-length : (s : State) → Sound s → s .length ≤ 2 ^ 63 - 1
 sound-length s h = leb-true (s .length) (2 ^ 63 - 1) (both-parts (isPower (s .limit)) (atMost63 (s .length)) h .1)
@@ -228,9 +229,6 @@ field-as f g h e = subst (λ (x : Field). T (validField x)) e h
 
 pub of-field : (l : List ℕ) (at : ℕ) (s : State) (f g : Field) (r : Plan) → ItemAt l at s (Op.Put g) r → f ≡ g → ItemAt l at s (Op.Put f) r
 of-field l at s f g r h e = subst (λ (x : Field). ItemAt l at s (Op.Put x) r) (sym e) h
-
-pub pad-small : (o : Op) (n k : ℕ) → T (validOp o) → o ≡ Op.Pad n k → k ≤ 1
-pad-small o n k h e = leb→le k 1 (op-as o (Op.Pad n k) h e)
 
 pub skips : (l : List ℕ) (at : ℕ) (s : State) → ItemAt l at s Op.Blank Plan.Skip
 unfolding writeOp

@@ -57,7 +57,7 @@ pub enum Plan {
 
 // x and X: 6, 9.
 fn pad(s: State, natural: u64, zeros: u64) -> Plan
-    requires { ⌜ Sound s ⌝ ∗ ⌜ zeros ≤ 1 ⌝ }
+    requires { ⌜ Sound s ⌝ ∗ ⌜ 1 ≤ natural ⌝ ∗ ⌜ zeros ≤ 1 ⌝ }
     ensures { λ r. ⌜ ((l : List ℕ) (vs : List definition.Value) → ItemPlan l s vs (ops.Pad natural zeros) r) ⌝ }
 {
     match padding(s, natural) {
@@ -188,6 +188,7 @@ fn counted(list: &[u8], at: usize, s: State, p: u64, size: u64) -> Plan
 
 // The zeros before a field, or 6.
 fn padding_of(s: State, f: Field) -> Amount
+    requires { ⌜ Sound s ⌝ ∗ ⌜ T (validField f) ⌝ }
     ensures { λ r. ⌜ amountOf r ≡ states.padding s (states.natural f) ⌝ }
 {
     padding(s, natural(f))

@@ -91,7 +91,7 @@ module _ {t : Table} {f d : List ℕ} {s₀ : State} {b : List ℕ} {put : Bool}
         accepts = e;
         counts = h .counted;
         ends = refl;
-        inside = h .so-far .stands;
+        inside = h .so-far .stands .0;
       } in
       (rw i r, h .holds ∙ ap (λ (x : List ℕ). cond put x b) (sym (ap (listInto b) e)))
 

@@ -53,4 +53,4 @@ module _ {t : Table} {f d : List ℕ} {w : Checked (Place ℕ × List Value)} {a
     item-set {x} e = subst (SoFar t f d w p x) (append-nil vs) (on (subst (FetchedStands d) e (g .stands)) (told e))
 
     pub item-read : {v : Reading} {x : Offset} → r ≡ Fetched.Read v x → SoFar t f d w p (atOffset s x) (vs ++ (valueOf d v ∷ []))
-    item-read e = on (subst (FetchedStands d) e (g .stands) .0) (told e)
+    item-read e = on (subst (FetchedStands d) e (g .stands) .0, h .stands .1) (told e)

@@ -1,4 +1,6 @@
 -- `read_counted` meets its contract: the offset after the padding, and there the length and the text.
+use Rattle.definition.specs.declared.Field.the-variants.{Counted}
+use Rattle.laws.proofs.Fields.{field-natural}
 use Rattle.fetch.specs.Fetching.{Skips}
 use Rattle.fetch.specs.declared.Skipped.the-variants.{To}
 use Rattle.fetch.proofs.Places.{field-pad-refused, field-after, countable}
@@ -17,7 +19,9 @@ returns c = let p = c .before .before .before in field-pad-refused (rw (p .befor
 pub read-counted-spec : {M : Type 1} → statement M
 read-counted-spec =
     tie.close
-    (tie.spec (λ c κs. search needs) (λ c κs. search needs) (λ c. search needs) (λ c. search needs)
+    (tie.spec (λ c κs. search needs)
+    (λ c κs. let s = c .before .before in (s .pre .0, rw (c .natural .ensures) (field-natural (Counted (s .args .size)) (s .pre .1))))
+    (λ c. search needs) (λ c. search needs)
     (λ c κs. aligned c .inside)
     (λ c κs. countable (c .before .before .before .before .before .before .before .good .0 .0) (c .counted .ensures))
     returns

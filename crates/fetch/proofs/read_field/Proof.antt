@@ -10,7 +10,7 @@ read-field-spec =
     (tie.spec (λ c. search needs)
     (λ c κs. let s = c .before .before .before .before in (s .pre .0, rw (c .before .f .given .1) at (s .pre .1)))
     (λ c. search needs)
-    (λ c κs. c .before .before .before .before .pre .0)
+    (λ c κs. let s = c .before .before .before .before in (s .pre .0, rw (c .before .f2 .given .1) at (s .pre .1)))
     (λ c κs. let s = c .before .before in (s .pre .0, unaligned-tag (s .args .f) (c .match .keys3)))
     (λ c. rw (c .before .before .f .given .1) (c .read-number .ensures))
     (λ c. rw (c .before .before .f2 .given .1) (c .read-counted .ensures))

@@ -1,4 +1,6 @@
 -- `read_number` meets its contract: the offset after the padding, and there the value.
+use Rattle.definition.specs.declared.Field.the-variants.{Number}
+use Rattle.laws.proofs.Fields.{number-size, field-natural}
 use Rattle.fetch.specs.Fetching.{Skips}
 use Rattle.fetch.specs.declared.Skipped.the-variants.{To}
 use Rattle.fetch.proofs.Places.{field-pad-refused, field-after, countable}
@@ -17,8 +19,10 @@ returns c = let p = c .before .before .before in field-pad-refused (rw (p .befor
 pub read-number-spec : {M : Type 1} → statement M
 read-number-spec =
     tie.close
-    (tie.spec (λ c κs. search needs) (λ c κs. search needs) (λ c. search needs) (λ c. search needs)
-    (λ c κs. (aligned c .inside, c .before .before .before .before .before .before .pre .1))
+    (tie.spec (λ c κs. search needs)
+    (λ c κs. let s = c .before .before in (s .pre .0, rw (c .natural .ensures) (field-natural (Number (s .args .kind) (s .args .size)) (s .pre .1))))
+    (λ c. search needs) (λ c. search needs)
+    (λ c κs. let s = c .before .before .before .before .before .before in (aligned c .inside, number-size (s .args .kind) (s .args .size) (s .pre .1)))
     (λ c κs. countable (c .before .before .before .before .before .before .before .good .0 .0) (c .number .ensures))
     returns
     (λ c. field-after (aligned (c .before .before)) (c .before .number .ensures) (c .after .ensures)))

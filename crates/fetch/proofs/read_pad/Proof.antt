@@ -24,8 +24,8 @@ returns-4 c =
 pub read-pad-spec : {M : Type 1} → statement M
 read-pad-spec =
     tie.close
-    (tie.spec (λ c κs. search needs) (λ c. search needs) (λ c. search needs) (λ c κs. search needs)
-    (λ c κs. let s = c .before .before .before .before .before .before in omega (arith, here c, s .pre))
+    (tie.spec (λ c κs. (c .before .pre .0 .1, c .before .pre .1)) (λ c. search needs) (λ c. search needs) (λ c κs. search needs)
+    (λ c κs. let s = c .before .before .before .before .before .before in omega (arith, here c, s .pre .0 .0))
     (λ c. let o = c .before .before in pad-short _ _ _ _ (padded (o .before)) (omega (arith, here o)))
     (λ c. let o = c .before .before .before in pad-short _ _ _ _ (padded (o .before)) (omega (arith, here o)))
     (λ c. search needs) (λ c κs. search needs)

@@ -2,7 +2,7 @@
 use Rattle.definition.specs.States.{natural}
 use Rattle.fetch.specs.Fetching.{Skips}
 use Rattle.fetch.specs.declared.Skipped.the-variants.{To}
-use Rattle.fetch.proofs.Places.{field-pad-refused, field-after, countable, zero-ended-left}
+use Rattle.fetch.proofs.Places.{field-pad-refused, field-after, countable, unaligned-natural, zero-ended-left}
 use borrow.Author.Needs.{needs}
 use Rattle.fetch.proofs.read_text.Statement.{statement}
 use Rattle.fetch.proofs.read_text.Tie as tie
@@ -32,7 +32,9 @@ returns-3 c =
 pub read-text-spec : {M : Type 1} → statement M
 read-text-spec =
     tie.close
-    (tie.spec (λ c κs. search needs) (λ c κs. search needs) (λ c. search needs) (λ c. search needs) (λ c. search needs)
+    (tie.spec (λ c κs. search needs)
+    (λ c κs. let s = c .before .before in (s .pre .0, rw (c .natural .ensures) (unaligned-natural (s .args .f) (s .pre .1))))
+    (λ c. search needs) (λ c. search needs) (λ c. search needs)
     (λ c κs. aligned (c .before .before .before) .inside)
     (λ c κs. let s = entry (c .before .before .before .before) in countable (s .good .0 .0) (c .text .ensures (s .args .s .big)))
     (λ c κs. aligned (c .before) .inside)

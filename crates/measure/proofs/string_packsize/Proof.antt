@@ -13,7 +13,7 @@ string-packsize-spec =
     (tie.spec
     (λ c κs. search needs)
     (λ c κs. search needs)
-    (λ c κs. subst Sizes (sym (c .before .before .table .ensures)) options-sizes)
+    (λ c κs. (subst Sizes (sym (c .before .before .table .ensures)) options-sizes, rw (c .start .ensures)))
     (λ c. search needs)
     (λ c. search needs)
     (λ c. let m = c .before .before .before in rw (← m .before .before .before .table .ensures, ← m .before .start .ensures, ← m .measure-from .ensures, c .before .k .given .1))

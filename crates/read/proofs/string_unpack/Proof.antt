@@ -48,7 +48,7 @@ placed a = rw (a .before .start .ensures) at (a .at-offset .ensures)
 stands : (a : tie.After-at-offset) → Stands (entry a .args .«data» .now) (a .at-offset .result)
 stands a =
     let s = entry a in
-    subst (Stands (s .args .«data» .now)) (sym (placed a)) (offset-inside (s .args .start) (length (s .args .«data» .now)) (found a))
+    subst (Stands (s .args .«data» .now)) (sym (placed a)) (offset-inside (s .args .start) (length (s .args .«data» .now)) (found a), refl)
 
 -- the table that is lent, which is the option table
 abbrev lent : tie.After-table → Table

@@ -5,6 +5,7 @@ use Rattle.definition.specs.Answers.{Checked, accepted}
 use Rattle.definition.specs.States.{natural, padding}
 use Rattle.definition.specs.declared.Field.{Field}
 use Rattle.definition.specs.declared.Op.the-variants as Op
+use Rattle.laws.proofs.Fields.{number-size}
 use Rattle.align.specs.Amounts.{amountOf}
 use Rattle.align.specs.declared.Amount.{Amount}
 use Rattle.align.specs.declared.Amount.the-variants as Amount
@@ -38,7 +39,8 @@ number-requires : tie.Need-number-requires
 number-requires c κs =
     let x = c .before .before .before in
     let s = x .before .before .before .before .before in
-    (s .pre .0, (s .pre .1 .0, (zeros (c .before .p .given .1) (x .padding-of .ensures), field-as (s .args .f) _ (s .pre .1 .1) (x .before .before .f .given .1))))
+    let f = x .before .before .f .given in
+    (s .pre .0, (s .pre .1 .0, (zeros (c .before .p .given .1) (x .padding-of .ensures), number-size (f .0 .0) (f .0 .1 .0) (field-as (s .args .f) _ (s .pre .1 .1) (f .1)))))
 
 chars-requires : tie.Need-chars-requires
 chars-requires c κs =
@@ -87,22 +89,22 @@ field-spec =
     tie.close
     (tie.spec
     (λ c. search needs)
-    (λ c κs. search needs)
+    (λ c κs. let s = c .before .before .before .before in (s .pre .0, field-as (s .args .f) _ (s .pre .1 .1) (c .before .f .given .1)))
     (λ c. search needs)
     (λ c. search needs)
     number-requires
     (λ c. search needs)
-    (λ c κs. search needs)
+    (λ c κs. let s = c .before .before .before .before in (s .pre .0, field-as (s .args .f) _ (s .pre .1 .1) (c .before .f2 .given .1)))
     (λ c. search needs)
     (λ c. search needs)
     chars-requires
     (λ c. search needs)
-    (λ c κs. search needs)
+    (λ c κs. let s = c .before .before .before in (s .pre .0, s .pre .1 .1))
     (λ c. search needs)
     (λ c. search needs)
     zero-ended-requires
     (λ c. search needs)
-    (λ c κs. search needs)
+    (λ c κs. let s = c .before .before .before .before in (s .pre .0, field-as (s .args .f) _ (s .pre .1 .1) (c .before .f3 .given .1)))
     (λ c. search needs)
     (λ c. search needs)
     counted-requires

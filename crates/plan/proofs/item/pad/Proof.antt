@@ -3,6 +3,7 @@ use mathlib.Core.Path.{_≡_, sym, ap, _∙_}
 use native.Mathlib.Omega.{arith}
 use Rattle.definition.specs.Answers.{accepted}
 use Rattle.definition.specs.States.{padding}
+use Rattle.laws.proofs.Calls.{sound-limited}
 use Rattle.align.specs.Amounts.{amountOf}
 use Rattle.plan.proofs.Plans.{padding-lt, sound-length, pad-unaligned, pad-zeros, pad-long}
 use borrow.Author.Needs.{needs}
@@ -26,7 +27,7 @@ pub pad-spec : {M : Type 1} → statement M
 pad-spec =
     tie.close
     (tie.spec
-    (λ c κs. search needs)
+    (λ c κs. (sound-limited (c .args .s) (c .pre .0), c .pre .1 .0))
     (λ c. search needs)
     (λ c. search needs)
     (λ c. omega (arith, padding-lt _ _ _ (zeros (c .before))))

@@ -1,7 +1,8 @@
 -- Each kind of item has its own function.
 use Rattle.definition.specs.declared.Op.the-variants as Op
+use Rattle.laws.proofs.Ops.{pad-valid}
 use Rattle.plan.specs.declared.item.Plan.the-variants as Plan
-use Rattle.plan.proofs.Plans.{pad-small, op-as, of-op, skips, sets-state}
+use Rattle.plan.proofs.Plans.{op-as, of-op, skips, sets-state}
 use borrow.Author.Needs.{needs}
 use Rattle.plan.proofs.item.plan_of.Statement.{statement}
 use Rattle.plan.proofs.item.plan_of.Tie as tie
@@ -28,7 +29,7 @@ plan-of-spec =
     (λ c. search needs)
     (λ c. search needs)
     (λ c. search needs)
-    (λ c κs. (c .before .before .before .before .pre .0, pad-small _ _ _ (c .before .before .before .before .pre .1 .1) (c .before .op2 .given .1)))
+    (λ c κs. (c .before .before .before .before .pre .0, pad-valid (c .before .before .before .before .pre .1 .1) (c .before .op2 .given .1)))
     (λ c. search needs)
     (λ c κs. (c .before .before .before .before .pre .0, (c .before .before .before .before .pre .1 .0, op-as _ _ (c .before .before .before .before .pre .1 .1) (c .before .op3 .given .1))))
     returns
