@@ -4,12 +4,13 @@ use native.Mathlib.Omega.{arith}
 use mathlib.Core.Path.{_≡_, refl, sym, ap, _∙_}
 use mathlib.Core.Bool.{Bool}
 use mathlib.Core.List.{List, [], _∷_}
-use lib.Dec.{T, lit≤}
+use lib.Dec.{T, leb, lit≤}
 use lib.ListN.{length, take, drop, length-drop}
 use lib.Seq.{drop-drop}
 use types.Run.{OneOf, miss}
 use denote.Enum.Declared.{tagOf}
-use borrow.Author.Tests.{le-leb, lt-leb}
+use borrow.Author.Tests.{le-leb, lt-leb, leb-true, leb-false}
+use borrow.Table.Steps.{cases}
 use Rattle.definition.specs.Answers.{Checked, refused, accepted, _>>=_}
 use Rattle.definition.specs.Values.{Value}
 use Rattle.definition.specs.States.{set, further, natural, padding}
@@ -28,7 +29,7 @@ use Rattle.definition.specs.declared.Op.the-variants as Op
 use Rattle.definition.proofs.Field.{the-type}
 use Rattle.definition.specs.Fields.{decode}
 use Rattle.decode.specs.Readings.{Within, valueOf, isUnaligned, decodedOf, DecodedInside, Decodes}
-use Rattle.fetch.specs.Fetching.{Stands, placeIn, Skips, afterOf, Countable, fetchedOf, FetchedStands, Fetches}
+use Rattle.fetch.specs.Fetching.{Stands, placeIn, skippedFrom, Skips, afterOf, Countable, fetchedOf, FetchedStands, Fetches}
 use Rattle.decode.specs.declared.Decoded.{Decoded}
 use Rattle.decode.specs.declared.Decoded.the-variants as Decoded
 use Rattle.fetch.specs.declared.Skipped.{Skipped}
@@ -55,6 +56,14 @@ module _ (d : List ℕ) (s : State) (n k : ℕ) where
     pad-read q h =
         let l : p + k ≤ length (drop (s .length) d) = omega (arith, length-drop (s .length) d) in
         record { says = rw (← e, le-leb (p + k) (length (drop (s .length) d)) l, q, ← skipped-is d s (p + k)); inside = h }
+
+    -- past k bytes from t on, where the padding ends
+    pub pad-skip : (t : Offset) (rest : ℕ) {r : Skipped} → t .0 ≡ s .length + p → t .0 + rest ≡ length d → r ≡ skippedFrom t rest k → Skips d s n k r
+    pad-skip t rest q l e =
+        rw e
+        (cases (leb k rest)
+        (λ y. rw y (pad-read (omega (arith, q)) (omega (arith, l, leb-true k rest y))))
+        (λ n. rw n (pad-short (omega (arith, q, l, leb-false k rest n)))))
 
 -- ---- a field: t is the offset after its padding, and x is what its bytes give there
 module _ {d : List ℕ} {s : State} {f : Field} where

@@ -1,7 +1,9 @@
 -- What an item does in reading, in the definition's terms.
 use Prim.Native.Nat.{ℕ, _+_, _^_, _<_}
 use mathlib.Core.Path.{_≡_}
+use mathlib.Core.Bool.{cond}
 use mathlib.Core.List.{List, [], _∷_}
+use lib.Dec.{leb}
 use Rattle.definition.specs.Answers.{Checked, refused, accepted}
 use Rattle.definition.specs.Values.{Value}
 use Rattle.definition.specs.Writing.{Place, place}
@@ -34,6 +36,10 @@ skippedOf d s (Skipped.To o) = accepted (placeIn d (atOffset s o))
 abbrev pub SkippedInside : List ℕ → Skipped → Type 0
 SkippedInside d (Skipped.Refused k) = Unit {0}
 SkippedInside d (Skipped.To o) = Within d o
+
+-- past k bytes, where so many are left from an offset on
+abbrev pub skippedFrom : Offset → ℕ → ℕ → Skipped
+skippedFrom at rest k = cond (leb k rest) (Skipped.To (offset (at .0 + k))) (Skipped.Refused 17)
 
 -- r is the place in d past an alignment by n, and k bytes
 pub record Skips (d : List ℕ) (s : State) (n k : ℕ) (r : Skipped) : Type 0 where

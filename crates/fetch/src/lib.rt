@@ -20,14 +20,14 @@ use definition::State;
 use position::further;
 use position::left;
 ghost use mathlib.Core.Path.{_≡_};
-ghost use Prim.Native.Nat.{_≤_};
+ghost use Prim.Native.Nat.{_+_, _^_, _≤_, _<_};
 ghost use lib.Dec.{T};
 ghost use Rattle.definition.specs.declared.Field.the-variants as fields;
 ghost use Rattle.definition.specs.declared.Op.the-variants as ops;
 ghost use Rattle.laws.proofs.Fields.{validField};
 ghost use Rattle.laws.proofs.Ops.{validOp};
 ghost use Rattle.decode.specs.Readings.{isUnaligned};
-ghost use Rattle.fetch.specs.Fetching.{Stands, Skips, Countable, afterOf, Fetches};
+ghost use Rattle.fetch.specs.Fetching.{Stands, skippedFrom, Skips, Countable, afterOf, Fetches};
 
 // The offset after some bytes, or the number of a refusal.
 pub enum Skipped {
@@ -44,7 +44,18 @@ pub enum Fetched {
     Read(Reading, Offset),
 }
 
-// Past an alignment by n, and k bytes: 6, 17.
+// Past k bytes, where so many are left from an offset on: 17.
+fn skip(at: Offset, rest: u64, k: u64) -> Skipped
+    requires { ⌜ at .0 + rest < 2 ^ 64 ⌝ }
+    ensures { λ r. ⌜ r ≡ skippedFrom at rest k ⌝ }
+{
+    if rest < k {
+        return Skipped::Refused(17);
+    }
+    Skipped::To(further(at, k))
+}
+
+// Past an alignment by n, and k bytes: 6, 17. Mostly there is nothing to pass over before them.
 fn read_pad(data: &[u8], s: State, n: u64, k: u64) -> Skipped
     requires { ⌜ Stands (now «data») s ⌝ ∗ ⌜ 1 ≤ n ⌝ }
     ensures { λ r. ⌜ Skips (now («data» .entry)) s n k r ⌝ }
@@ -54,13 +65,13 @@ fn read_pad(data: &[u8], s: State, n: u64, k: u64) -> Skipped
         Amount::Bytes(p) => {
             let at = offset_in(s);
             let rest = left(data.len(), at);
+            if p == 0 {
+                return skip(at, rest, k);
+            }
             if rest < p {
                 return Skipped::Refused(17);
             }
-            if rest - p < k {
-                return Skipped::Refused(17);
-            }
-            Skipped::To(further(at, p + k))
+            skip(further(at, p), rest - p, k)
         }
     }
 }
