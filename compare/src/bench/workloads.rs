@@ -49,7 +49,7 @@ pub struct Workload {
     pub goal: Option<Goal>,
 }
 
-/// Those of the tables of goals, which some have none of.
+/// Those of the first two tables, most of them with a goal.
 pub fn with_goals() -> Vec<Workload> {
     let mut all = measured();
     for kind in [Kind::Writing, Kind::Reading] {
