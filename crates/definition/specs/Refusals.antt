@@ -16,7 +16,7 @@ refusals =
     -- "Host program"
     ∷ 21 ∷ 22
     -- document 02: "Numbers added here and below join 01's list."
-    ∷ 23 ∷ 24 ∷ 25 ∷ 26
+    ∷ 23 ∷ 24 ∷ 25 ∷ 26 ∷ 27
     ∷ []
 
 -- k is one of them

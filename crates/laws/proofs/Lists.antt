@@ -1,9 +1,9 @@
 -- Laws of the value list: the list of values is read as these values; what a list holds; the values after some fields.
-use Prim.Native.Nat.{ℕ, zero, suc, _+_, _-_, _^_, _≤_, _<_}
+use Prim.Native.Nat.{ℕ, zero, suc, _+_, _-_, _/_, _^_, _≤_, _<_}
 use mathlib.Core.Path.{_≡_, refl, sym, ap, _∙_, subst}
 use mathlib.Core.Bool.{Bool, true, false, cond}
 use mathlib.Core.List.{List, [], _∷_, _++_, reverse, reverse-reverse, reverse-cons, append-assoc, append-nil}
-use native.Mathlib.Nat.{mod-eq-of-lt, pow-suc}
+use native.Mathlib.Nat.{mod-lt, mod-eq-of-lt, pow-suc}
 use native.Mathlib.Omega.{arith}
 use lib.Dec.{leb, eqb, lit<, lit≤}
 use lib.Arith.{digits-mod, digits-div}
@@ -46,7 +46,7 @@ value-of (float b) h = rw (length-big 8 b, big-total 8 b h)
 value-of (text s) h = refl
 value-of other h = refl
 
-short : (v : Value) → Held v → length (content v) < 256 ^ 2
+pub short : (v : Value) → Held v → length (content v) < 256 ^ 2
 short (integer z) h = rw (length-big 8 (bits z)) (lit< tt)
 short (float b) h = rw (length-big 8 b) (lit< tt)
 short (text s) h = omega arith
@@ -76,9 +76,17 @@ unfolding total
 total-lt [] h = lit< tt
 total-lt (b ∷ s) h = rw (pow-suc 256 (length s)) (omega (arith, total-lt s (h .1)))
 
-all-reverse : (s : List ℕ) → All IsByte s → All IsByte (reverse s)
+pub all-reverse : (s : List ℕ) → All IsByte s → All IsByte (reverse s)
 all-reverse [] h = tt
 all-reverse (b ∷ s) h = rw (reverse-cons b s) (all-append IsByte (reverse s) (b ∷ []) (all-reverse s (h .1)) (h .0, tt))
+
+all-little : (n v : ℕ) → All IsByte (little n v)
+unfolding little
+all-little zero v = tt
+all-little (suc n) v = (mod-lt v (lit< tt), all-little n (v / 256))
+
+pub all-big : (n v : ℕ) → All IsByte (big n v)
+all-big n v = all-reverse (little n v) (all-little n v)
 
 -- bytes are those of the number that they write
 little-total : (s : List ℕ) → All IsByte s → little (length s) (total s) ≡ s
@@ -89,13 +97,13 @@ little-total (b ∷ s) h = rw (digits-mod (total s) (h .0), digits-div (total s)
 pub big-of : (s : List ℕ) (n : ℕ) → All IsByte s → length s ≡ n → big n (bigTotal s) ≡ s
 big-of s n h e = rw (← e, ← length-reverse s, little-total (reverse s) (all-reverse s h), reverse-reverse s)
 
-big-lt : (s : List ℕ) (n : ℕ) → All IsByte s → length s ≡ n → bigTotal s < 256 ^ n
+pub big-lt : (s : List ℕ) (n : ℕ) → All IsByte s → length s ≡ n → bigTotal s < 256 ^ n
 big-lt s n h e = subst (λ (k : ℕ). bigTotal s < 256 ^ k) (length-reverse s ∙ e) (total-lt (reverse s) (all-reverse s h))
 
-all-take : (n : ℕ) (s : List ℕ) → All IsByte s → All IsByte (take n s)
+pub all-take : (n : ℕ) (s : List ℕ) → All IsByte s → All IsByte (take n s)
 all-take n s h = all-left IsByte (take n s) (drop n s) (rw (take-append-drop n s) h)
 
-all-drop : (n : ℕ) (s : List ℕ) → All IsByte s → All IsByte (drop n s)
+pub all-drop : (n : ℕ) (s : List ℕ) → All IsByte s → All IsByte (drop n s)
 all-drop n s h = all-right IsByte (take n s) (drop n s) (rw (take-append-drop n s) h)
 
 value-held : (t : ℕ) (c : List ℕ) (v : Value) → All IsByte c → length c ≤ 65535 → valueOf t c ≡ accepted v → Held v

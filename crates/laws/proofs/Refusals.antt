@@ -109,17 +109,17 @@ among-all ms (n ∷ ns) h k e = first (among ms n) refl h (λ g. among-all ms ns
     first true q h f = one (eqb k n) refl (subst T (sym q) tt) (f h) e
     first false q h f = absurd h
 
-module _ {S I O : Type 0} (step : S → I → Checked (S × O)) (nothing : O) (_⊕_ : O → O → O) (steps : (s : S) (i : I) → ByItem (step s i)) where
+module _ {test : ℕ → Bool} {S I O : Type 0} (step : S → I → Checked (S × O)) (nothing : O) (_⊕_ : O → O → O) (steps : (s : S) (i : I) → Refuses test (step s i)) where
   infixl 60 _⊕_
-  low-after : (o : O) (c : Checked (S × O)) → ByItem c → ByItem (after step nothing _⊕_ o c)
+  low-after : (o : O) (c : Checked (S × O)) → Refuses test c → Refuses test (after step nothing _⊕_ o c)
   low-after o (refused k) (low h) = low h
   low-after o (accepted r) h = fine
 
-  low-run : (s : S) (is : List (Checked I)) → All ByItem is → ByItem (run step nothing _⊕_ s is)
+  low-run : (s : S) (is : List (Checked I)) → All (Refuses test) is → Refuses test (run step nothing _⊕_ s is)
   low-run s [] l = fine
   low-run s (i ∷ is) l = low-bind (i >>= step s) _ (low-bind i (step s) (l .0) (steps s)) (λ r. low-after (r .1) (run step nothing _⊕_ (r .0) is) (low-run (r .0) is (l .1)))
 
-low-silent : {S I : Type 0} (step : S → I → Checked S) → ((s : S) (i : I) → ByItem (step s i)) → (s : S) (is : List (Checked I)) → All ByItem is → ByItem (runSilent step s is)
+pub low-silent : {test : ℕ → Bool} {S I : Type 0} (step : S → I → Checked S) → ((s : S) (i : I) → Refuses test (step s i)) → (s : S) (is : List (Checked I)) → All (Refuses test) is → Refuses test (runSilent step s is)
 low-silent step steps s is l = low-bind _ _ (low-run (silent step) tt _ (λ s i. low-bind (step s i) _ (steps s i) (λ t. fine)) s is l) (λ r. fine)
 
 -- ---- items
@@ -194,11 +194,11 @@ low-alignment : (s : State) (n : ℕ) → ByItem (alignment s n)
 unfolding alignment
 low-alignment s n = low-check (isPower (min n (s .limit))) 6 (accepted (min n (s .limit))) tt fine
 
-low-padding : (s : State) (n : ℕ) → ByItem (padding s n)
+pub low-padding : (s : State) (n : ℕ) → ByItem (padding s n)
 unfolding padding
 low-padding s n = low-bind (alignment s n) _ (low-alignment s n) (λ a. fine)
 
-low-longer : (s : State) (n : ℕ) → ByItem (longer s n)
+pub low-longer : (s : State) (n : ℕ) → ByItem (longer s n)
 unfolding longer
 low-longer s n = low-check (leb (s .length + n) (2 ^ 63 - 1)) 9 (accepted (further s n)) tt fine
 

@@ -27,11 +27,11 @@ use Rattle.laws.proofs.Texts.{length-filled}
 use Rattle.laws.proofs.Steps.{Roomy, room-longer, Step, blank, sets, pads-out, puts, step-of}
 use Rattle.laws.proofs.ReadBack.{length-written}
 
-number-size : (o : Bool) (k : Kind) (n : ℕ) (v : Value) (bs : List ℕ) → encode o (Number k n) v ≡ accepted bs → length bs ≡ n
+pub number-size : (o : Bool) (k : Kind) (n : ℕ) (v : Value) (bs : List ℕ) → encode o (Number k n) v ≡ accepted bs → length bs ≡ n
 unfolding encode
 number-size o k n v bs e = let b = bound (word k n v) (λ z. accepted (coded o n z)) e in subst (λ (l : List ℕ). length l ≡ n) (same (b .rest)) (length-coded o n (b .val))
 
-chars-size : (o : Bool) (n : ℕ) (v : Value) (bs : List ℕ) → encode o (Chars n) v ≡ accepted bs → length bs ≡ n
+pub chars-size : (o : Bool) (n : ℕ) (v : Value) (bs : List ℕ) → encode o (Chars n) v ≡ accepted bs → length bs ≡ n
 unfolding encode
 chars-size o n v bs e =
     let b = bound (orElse (asBytes v) (refused 12)) _ e in

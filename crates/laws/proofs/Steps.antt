@@ -8,6 +8,8 @@ use mathlib.Core.List.{List, [], _∷_, _++_, map, append-assoc}
 use lib.Dec.{T, leb}
 use lib.ListN.{length, length-append, length-replicate, length-map}
 use lib.Seq.{drop-at}
+use borrow.Author.Tests.{lt-leb, leb-false}
+use borrow.Table.Steps.{cases}
 use Rattle.definition.specs.Answers.{accepted, _>>=_}
 use Rattle.definition.specs.Ops.{isPower}
 use Rattle.definition.specs.Values.{Value, Held}
@@ -42,6 +44,13 @@ longer-room s t n e = let p = passed (leb (s .length + n) (2 ^ 63 - 1)) 9 (accep
 pub room-longer : (s : State) (n : ℕ) → Roomy s n → longer s n ≡ accepted (further s n)
 unfolding longer
 room-longer s n e = rw e
+
+pub longer-twice : (s : State) (p n : ℕ) → (longer s p >>= λ t. longer t n) ≡ longer s (p + n)
+unfolding longer
+longer-twice s p n =
+    cases (leb (s .length + p) (2 ^ 63 - 1))
+    (λ q. rw (q, add-assoc (s .length) p n))
+    (λ q. rw (q, lt-leb (s .length + (p + n)) (2 ^ 63 - 1) (omega (arith, leb-false (s .length + p) (2 ^ 63 - 1) q))))
 
 -- ---- an accepted step
 pub data Step (r : Place Value) : Op → Place Value → Output → Type 0 where
@@ -137,7 +146,7 @@ pub record Premises (r : Place Value) (o : Op) (a : Output) : Type 0 where
   pub held : All Held (r .left)
   pub integers : All (λ t. T (integerForJ (t .0) (t .1))) (a .took)
 
-set-placed : (x : Setting) (n : ℕ) (s : State) → set x (placed n s) ≡ placed n (set x s)
+pub set-placed : (x : Setting) (n : ℕ) (s : State) → set x (placed n s) ≡ placed n (set x s)
 set-placed (Setting.Order o) n s = refl
 set-placed (Setting.Limit m) n s = refl
 

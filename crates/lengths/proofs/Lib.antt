@@ -1,0 +1,9 @@
+pub mod Orders
+pub mod Steps
+pub mod Between
+pub mod Reaching
+pub mod Calls
+pub mod Fixed
+pub mod Over
+pub mod Numbers
+pub mod Premises

@@ -1,0 +1,4 @@
+pub mod Lengths
+pub mod Examples
+pub mod Claims
+pub mod Premises
