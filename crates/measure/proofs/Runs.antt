@@ -9,12 +9,8 @@ use lib.ListN.{length, drop}
 use Rattle.definition.specs.Answers.{Checked, refused, accepted, _>>=_, run, silent, runSilent}
 use Rattle.definition.specs.Options.{Table}
 use Rattle.definition.specs.Ops.{ops}
-use Rattle.definition.specs.declared.State.{State}
 use Rattle.definition.specs.declared.Op.{Op}
 use Rattle.laws.proofs.Ops.{Sizes, validOp}
-use Rattle.align.specs.Amounts.{stateOf}
-use Rattle.align.specs.declared.Next.{Next}
-use Rattle.align.specs.declared.Next.the-variants as Stepped
 use Rattle.format.specs.Steps.{opAt, nextAt, nextOf}
 use Rattle.format.specs.declared.cursor.Cursor.{Cursor}
 use Rattle.format.specs.declared.cursor.Item.{Item}
@@ -30,21 +26,21 @@ same : (o : Unit {0}) → tt ≡ o
 same o = refl
 
 -- the state at the end of a walk
-abbrev endOf : Checked (State × Unit {0}) → Checked State
+abbrev endOf : {S : Type 0} → Checked (S × Unit {0}) → Checked S
 endOf v = v >>= λ r. accepted (r .0)
 
 -- by the table t, the whole run w over f has come to a place and to the state s
-pub record Ran (step : State → Op → Checked State) (t : Table) (w : Checked State) (f : List ℕ) (at : ℕ) (s : State) : Type 0 where
-  pub walk : Checked (State × Unit {0})
+pub record Ran {S : Type 0} (step : S → Op → Checked S) (t : Table) (w : Checked S) (f : List ℕ) (at : ℕ) (s : S) : Type 0 where
+  pub walk : Checked (S × Unit {0})
   pub is : w ≡ endOf walk
   pub walked : Walked (silent step) tt none-more t walk f at s tt
 
-module _ {step : State → Op → Checked State} {t : Table} {f : List ℕ} {at : ℕ} {s : State} where
-  pub run-none : {r : State} → at ≡ 0 → s ≡ r → Ran step t (runSilent step r (ops t f)) f at s
+module _ {S : Type 0} {step : S → Op → Checked S} {t : Table} {f : List ℕ} {at : ℕ} {s : S} where
+  pub run-none : {r : S} → at ≡ 0 → s ≡ r → Ran step t (runSilent step r (ops t f)) f at s
   run-none e g = record { walk = run (silent step) tt none-more s (ops t f); is = rw (← g); walked = walk-none (silent step) tt none-more same same (λ a b c. refl) t f at s e }
 
-  module _ {w : Checked State} (h : Ran step t w f at s) where
-    ended : {v : Checked (State × Unit {0})} → h .walk ≡ v → endOf v ≡ w
+  module _ {w : Checked S} (h : Ran step t w f at s) where
+    ended : {v : Checked (S × Unit {0})} → h .walk ≡ v → endOf v ≡ w
     ended e = sym (h .is ∙ ap endOf e)
 
     -- the answer x of the cursor
@@ -66,10 +62,8 @@ module _ {step : State → Op → Checked State} {t : Table} {f : List ℕ} {at 
         pub run-less : length f - d .at < length f - at
         run-less = omega (arith, ahead t f at item)
 
-        -- the answer y of the step
-        module _ {y : Next} (q : stateOf y ≡ step s o) where
-          pub run-refused : {k : ℕ} → y ≡ Stepped.Refused k → refused k ≡ w
-          run-refused z = ended (walk-refused (silent step) tt none-more same same (λ a b c. refl) (h .walked) item (rw (← q, z)))
+        pub run-refused : {k : ℕ} → refused k ≡ step s o → refused k ≡ w
+        run-refused z = ended (walk-refused (silent step) tt none-more same same (λ a b c. refl) (h .walked) item (rw (← z)))
 
-          pub run-on : {u v : State} → y ≡ Stepped.State u → v ≡ u → Ran step t w f (d .at) v
-          run-on z g = record { walk = h .walk; is = h .is; walked = rw g (walk-on (silent step) tt none-more same same (λ a b c. refl) (h .walked) item (rw (← q, z))) }
+        pub run-on : {u v : S} → accepted u ≡ step s o → v ≡ u → Ran step t w f (d .at) v
+        run-on z g = record { walk = h .walk; is = h .is; walked = rw g (walk-on (silent step) tt none-more same same (λ a b c. refl) (h .walked) item (rw (← z))) }

@@ -27,7 +27,7 @@ unfolding bound
 returns-3 c =
     let o = c .before .before .before .before in
     let n = o .before .before .before .before in
-    ap lengthOf (run-refused (n .before .loop .inv) (n .next .ensures) (o .before .before .i .given .1) (o .op .ensures) (c .before .before .before .bound-op .ensures) (c .before .k2 .given .1))
+    ap lengthOf (run-refused (n .before .loop .inv) (n .next .ensures) (o .before .before .i .given .1) (o .op .ensures) (rw (c .before .k2 .given .1) at (c .before .before .before .bound-op .ensures)))
 
 loop-less : tie.Need-loop-less Inv-loop μ-loop
 loop-less c =
@@ -39,7 +39,7 @@ loop-again : tie.Need-loop-again Inv-loop μ-loop
 loop-again c =
     let o = c .before .before .before .before .before in
     let n = o .before .before .before .before in
-    run-on (n .before .loop .inv) (n .next .ensures) (o .before .before .i .given .1) (o .op .ensures) (c .before .before .before .before .bound-op .ensures) (c .before .before .t .given .1) (c .parts .ensures)
+    run-on (n .before .loop .inv) (n .next .ensures) (o .before .before .i .given .1) (o .op .ensures) (rw (c .before .before .t .given .1) at (c .before .before .before .before .bound-op .ensures)) (c .parts .ensures)
 
 pub bound-by-spec : {M : Type 1} → statement M
 unfolding bound

@@ -27,7 +27,7 @@ returns-3 : tie.Need-returns-3 Inv-loop μ-loop
 returns-3 c =
     let o = c .before .before .before .before in
     let n = o .before .before .before .before in
-    run-refused (n .before .loop .inv .0) (n .next .ensures) (o .before .before .i .given .1) (o .op .ensures) (c .before .before .before .measure-op .ensures) (c .before .k2 .given .1)
+    run-refused (n .before .loop .inv .0) (n .next .ensures) (o .before .before .i .given .1) (o .op .ensures) (rw (c .before .k2 .given .1) at (c .before .before .before .measure-op .ensures))
 
 loop-less : tie.Need-loop-less Inv-loop μ-loop
 loop-less c =
@@ -39,10 +39,9 @@ loop-again : tie.Need-loop-again Inv-loop μ-loop
 loop-again c =
     let o = c .before .before .before .before .before in
     let n = o .before .before .before .before in
-    let m = c .before .before .before .before .measure-op in
-    let t = c .before .before .t in (
-      run-on (n .before .loop .inv .0) (n .next .ensures) (o .before .before .i .given .1) (o .op .ensures) (m .ensures) (t .given .1) (c .parts .ensures),
-      rw (c .parts .ensures) (op-limited _ _ _ (sym (rw (t .given .1) at (m .ensures))) (item-valid o) (n .before .loop .inv .1)),
+    let m = rw (c .before .before .t .given .1) at (c .before .before .before .before .measure-op .ensures) in (
+      run-on (n .before .loop .inv .0) (n .next .ensures) (o .before .before .i .given .1) (o .op .ensures) m (c .parts .ensures),
+      rw (c .parts .ensures) (op-limited _ _ _ (sym m) (item-valid o) (n .before .loop .inv .1)),
     )
 
 pub measure-from-spec : {M : Type 1} → statement M

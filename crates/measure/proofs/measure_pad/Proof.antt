@@ -1,24 +1,10 @@
 -- The zeros, then the bytes: twice longer is longer by the sum.
-use Prim.Native.Nat.{ℕ, _+_, _-_, _^_}
-use mathlib.Core.Path.{_≡_, _∙_}
-use native.Mathlib.Nat.{zero-add, add-assoc}
-use native.Mathlib.Omega.{arith}
-use lib.Dec.{leb}
+use mathlib.Core.Path.{_∙_}
+use native.Mathlib.Nat.{zero-add}
 use borrow.Author.Needs.{needs}
-use borrow.Author.Tests.{lt-leb, leb-false}
-use borrow.Table.Steps.{cases}
-use Rattle.definition.specs.Answers.{_>>=_}
-use Rattle.definition.specs.States.{longer}
-use Rattle.definition.specs.declared.State.{State}
+use Rattle.laws.proofs.Steps.{longer-twice}
 use Rattle.measure.proofs.measure_pad.Statement.{statement}
 use Rattle.measure.proofs.measure_pad.Tie as tie
-
-longer-twice : (s : State) (p n : ℕ) → (longer s p >>= λ t. longer t n) ≡ longer s (p + n)
-unfolding longer
-longer-twice s p n =
-    cases (leb (s .length + p) (2 ^ 63 - 1))
-    (λ q. rw (q, add-assoc (s .length) p n))
-    (λ q. rw (q, lt-leb (s .length + (p + n)) (2 ^ 63 - 1) (omega (arith, leb-false (s .length + p) (2 ^ 63 - 1) q))))
 
 pub measure-pad-spec : {M : Type 1} → statement M
 measure-pad-spec =
