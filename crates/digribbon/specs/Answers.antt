@@ -11,6 +11,7 @@ use Rattle.definition.specs.declared.State.{State}
 use Rattle.definition.specs.declared.Continued.{Continued}
 use Rattle.definition.specs.declared.Unpacked.{Unpacked}
 use Rattle.calendar.specs.declared.Date.{Date}
+use Rattle.lengths.specs.declared.Range.{Range}
 
 -- the number returned, and what the answer's array then holds: 0 and the answer's words, or the refusal's number and what the array held before. No refusal has the number 0 (`Numbered` of laws' Claims).
 abbrev pub told : {A : Type 0} → (A → List ℕ) → List ℕ → Checked A → ℕ × List ℕ
@@ -31,6 +32,9 @@ continuedWords c = cond (c .next .big) 1 0 ∷ c .next .limit ∷ c .next .lengt
 
 abbrev pub unpackedWords : Unpacked → List ℕ
 unpackedWords u = u .length ∷ u .next .0 ∷ []
+
+abbrev pub rangeWords : Range → List ℕ
+rangeWords r = r .least ∷ r .greatest ∷ []
 
 abbrev pub dateWords : Date → List ℕ
 dateWords d = d .year ∷ d .month ∷ d .day ∷ []

@@ -9,6 +9,8 @@ use dates::day_number;
 use dates::last_day;
 use measure::Measured;
 use measure::string_packsize;
+use range::Ranged;
+use range::packsize_range;
 use read::Unpacking;
 use read::string_unpack;
 use tray::Tray;
@@ -23,10 +25,11 @@ ghost use Rattle.definition.specs.Answers.{accepted};
 ghost use Rattle.definition.specs.Lists.{offsetAfter};
 ghost use Rattle.definition.specs.Calls.{stringPacksize, listBound, stringPack, packContinued, stringUnpack};
 ghost use Rattle.definition.specs.Trays.{packTray};
+ghost use Rattle.lengths.specs.Lengths.{packsizeRange};
 ghost use Rattle.calendar.specs.Calendar.{dayNumber, dateOf, lastDay};
 ghost use Rattle.dates.specs.Answers.{dayOf};
 ghost use Rattle.measure.specs.Measured.{measuredOf};
-ghost use Rattle.digribbon.specs.Answers.{told, toldWith, toldAt, word, continuedWords, unpackedWords, dateWords, stateOf};
+ghost use Rattle.digribbon.specs.Answers.{told, toldWith, toldAt, word, continuedWords, unpackedWords, dateWords, rangeWords, stateOf};
 
 // A size in the answer, or a refusal's number.
 fn tell_size(m: Measured, answer: &mut [u64; 1]) -> u64
@@ -59,6 +62,24 @@ pub extern "C" fn digribbon_list_bound(
     ensures { λ r. ⌜ (r, now (answer .exit)) ≡ told word (now (answer .entry)) (listBound (now (format .entry)) «data_length») ⌝ }
 {
     tell_size(list_bound(format, data_length), answer)
+}
+
+// The least and the greatest record length.
+#[no_mangle]
+pub extern "C" fn digribbon_packsize_range(
+    format: &[u8],
+    pairs: &[u8],
+    answer: &mut [u64; 2],
+) -> u64
+    ensures { λ r. ⌜ (r, now (answer .exit)) ≡ told rangeWords (now (answer .entry)) (packsizeRange (now (format .entry)) (now (pairs .entry))) ⌝ }
+{
+    match packsize_range(format, pairs) {
+        Ranged::Refused(k) => k as u64,
+        Ranged::Range(r) => {
+            *answer = [r.least, r.greatest];
+            0
+        }
+    }
 }
 
 // Writing.
