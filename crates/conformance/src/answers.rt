@@ -1,7 +1,10 @@
 // The calls' answers as numbers.
 use bound::list_bound;
+use lengths::Range;
 use measure::Measured;
 use measure::string_packsize;
+use range::Ranged;
+use range::packsize_range;
 use read::Unpacking;
 use read::string_unpack;
 use tray::Tray;
@@ -10,8 +13,8 @@ use words::to_signed;
 use write::Packed;
 use write::string_pack;
 
-// A refusal's number, or 0; a length, and the next position of reading or the place of a tray's record that was refused,
-// each 0 where there is none.
+// A refusal's number, or 0; a length, and the next position of reading, the place of a tray's record that was refused or the
+// greatest record length, each 0 where there is none.
 pub struct Answer {
     pub refusal: u8,
     pub length: u64,
@@ -39,6 +42,17 @@ pub fn size(format: &[u8]) -> Answer {
 
 pub fn bound(format: &[u8], data_length: u64) -> Answer {
     of_measured(list_bound(format, data_length))
+}
+
+fn of_range(r: Range) -> Answer {
+    answer_of(0, r.least, r.greatest)
+}
+
+pub fn range(format: &[u8], pairs: &[u8]) -> Answer {
+    match packsize_range(format, pairs) {
+        Ranged::Range(r) => of_range(r),
+        Ranged::Refused(k) => answer_of(k, 0, 0),
+    }
 }
 
 fn of_packed(p: Packed) -> Answer {

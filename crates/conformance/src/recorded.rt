@@ -1,12 +1,14 @@
-// Recorded answers of the original, and ours to the same calls. A line is a case:
+// Recorded answers, of the original or of a plain reading, and ours to the same calls. A line is a case:
 //   m FORMAT = SIZE                          measuring
 //   w FORMAT / LIST = RECORD                 writing
 //   r FORMAT / DATA / START = LIST / NEXT    reading
 //   t FORMAT / RUN = TRAY                    a tray
-// A refusal has ! in place of = and what follows it, and behind that of a tray stands / PLACE. `compare/run record FILE`
-// makes the lines.
+//   l FORMAT / PAIRS = LEAST / GREATEST      a range of lengths
+// A refusal has ! in place of = and what follows it; behind that of a tray stands / PLACE, and behind that of a range its
+// number. `compare/run record FILE` makes the lines.
 use crate::answers::Answer;
 use crate::answers::called;
+use crate::answers::range;
 use crate::answers::size;
 use crate::parts::FILL;
 use crate::parts::front;
@@ -42,6 +44,15 @@ fn is_answer(s: &[u8], at: usize, a: Answer, out: &[u8]) -> bool {
         & check::same(out, &expected)
 }
 
+// Whether the range at a place is ours: both lengths, or the number of the refusal.
+fn is_range(s: &[u8], at: usize, a: Answer) -> bool {
+    if a.refusal != 0 {
+        return has_number(s, at, b'!', a.refusal as u64);
+    }
+    let least = number(s, at, b'=', 0);
+    (least.value == a.length) & has_number(s, least.at, b'/', a.next)
+}
+
 // Whether our answer to a line's case is the recorded one.
 pub fn is_same(s: &[u8]) -> bool {
     let mut buffer = [0u8; 1024];
@@ -52,6 +63,9 @@ pub fn is_same(s: &[u8]) -> bool {
     if call == b'm' {
         let m = size(format);
         return has_number(s, g.behind_format, mark(m.refusal), m.length);
+    }
+    if call == b'l' {
+        return is_range(s, g.at, range(format, front(&list, g.list)));
     }
     let start = number(s, g.at, b'/', 1);
     let mut out = [FILL; 1024];
