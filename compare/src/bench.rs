@@ -1,11 +1,12 @@
 //! What a call costs, ours beside the original and Lua 5.4: instructions and time, as tables and as plots. Calls about dates have
-//! other peers.
+//! other peers, and the range of lengths stands beside our own measuring.
 
 mod count;
 mod dates;
 mod lua;
 mod parts;
 mod plot;
+mod range;
 mod table;
 mod time;
 mod trays;
@@ -15,6 +16,7 @@ use crate::lua::Lua;
 use crate::page;
 use crate::value::Bytes;
 use dates::Call;
+use range::Ranges;
 use std::fs;
 use std::path::Path;
 use std::process::ExitCode;
@@ -69,6 +71,13 @@ struct DatesRow {
     nanoseconds: [f64; 4],
 }
 
+/// What a range of lengths costs, and two measurings beside it.
+struct RangeRow {
+    ranges: Ranges,
+    instructions: [f64; 2],
+    nanoseconds: [f64; 2],
+}
+
 struct Report {
     /// The workloads with goals, then those that grow.
     goals: Vec<Row>,
@@ -81,6 +90,7 @@ struct Report {
     growing_trays: Vec<(Trays, [f64; 2])>,
     /// For each call about dates.
     dates: Vec<DatesRow>,
+    ranges: Vec<RangeRow>,
     stand_ins: Vec<(&'static str, f64)>,
     version: String,
 }
@@ -137,6 +147,9 @@ fn report() -> Result<Report, String> {
     if !dates::agree() {
         return Err("ours and the peers answer differently about dates".to_string());
     }
+    if let Some(ranges) = range::all().iter().find(|ranges| !ranges.agrees()) {
+        return Err(format!("the range of {} has other lengths than are measured", ranges.name));
+    }
     let version = Lua::version()?;
     let scratch = std::env::temp_dir().join(format!("digribbon-bench-{}", std::process::id()));
     fs::create_dir_all(&scratch).map_err(|why| format!("no folder for the counts can be made: {why}"))?;
@@ -166,7 +179,8 @@ fn measured(goals: Vec<Workload>, growth: Vec<Workload>, version: String, scratc
     let trays = rows.collect::<Result<_, _>>()?;
     let growing_trays = counted().map(|(trays, counts)| (trays, [counts.tray, counts.each])).collect();
     let dates = Call::ALL.into_iter().zip(counts.dates).map(dates_row).collect();
-    Ok(Report { goals, growth, parts, trays, growing_trays, dates, stand_ins: counts.stand_ins, version })
+    let ranges = range::all().into_iter().zip(counts.ranges).map(range_row).collect();
+    Ok(Report { goals, growth, parts, trays, growing_trays, dates, ranges, stand_ins: counts.stand_ins, version })
 }
 
 fn tray_row(trays: Trays, counts: &TrayCounts, scratch: &Path) -> Result<TrayRow, String> {
@@ -186,6 +200,12 @@ fn tray_row(trays: Trays, counts: &TrayCounts, scratch: &Path) -> Result<TrayRow
 fn dates_row((call, instructions): (Call, [f64; 4])) -> DatesRow {
     eprintln!("bench: {}", call.name());
     DatesRow { instructions, nanoseconds: time::times_of_dates(call) }
+}
+
+fn range_row((ranges, instructions): (Ranges, [f64; 2])) -> RangeRow {
+    eprintln!("bench: the range of {}", ranges.name);
+    let nanoseconds = time::times_of_range(&ranges);
+    RangeRow { ranges, instructions, nanoseconds }
 }
 
 fn publish(report: &Report, folder: Option<&Path>) -> Result<(), String> {

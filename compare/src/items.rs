@@ -1,4 +1,5 @@
-//! The items of a format, by a lexer of its own: "An item is a byte with the decimal digits it takes."
+//! The items of a format, by a lexer of its own: "An item is a byte with the decimal digits it takes." What each means by itself,
+//! and by which number it is refused, for the plain readings.
 
 /// The digits that an item takes, as a number.
 #[derive(Clone, Copy, Debug, PartialEq, Eq)]
@@ -100,6 +101,42 @@ impl Item {
             (b's', Numeral::Absent) => Some(8),
             (b's', Numeral::Number(size @ 1..=16)) => Some(size),
             _ => None,
+        }
+    }
+
+    /// What the item aligns by, before the limit: a number by its size, s by that of its length, X by what it takes.
+    pub fn aligned_by(&self) -> u64 {
+        self.size().or(self.prefix()).or(self.natural()).unwrap_or(1)
+    }
+
+    /// The option has a text as long as its value's.
+    pub fn is_open(&self) -> bool {
+        matches!(self.option, b'z' | b's')
+    }
+
+    /// The refusal of an item by itself: 1 to 8, but for 6.
+    pub fn refusal(&self) -> Option<u64> {
+        let numeral = |number: u64, admitted: fn(u64) -> Option<u64>| match self.numeral {
+            Numeral::TooLarge => Some(2),
+            Numeral::Absent => None,
+            Numeral::Number(n) if !(1..=16).contains(&n) => Some(number),
+            Numeral::Number(n) => admitted(n),
+        };
+        let size = || numeral(3, |_| None);
+        match (self.option, self.aligned) {
+            (b'X', Some(128..)) => Some(1),
+            (b'X', None | Some(b'X' | b'<' | b'>' | b'=' | b'!' | b'c' | b's' | b'z' | b'x')) => Some(7),
+            (b'X', Some(next)) if is_blank(next) => Some(7),
+            (b'X', Some(b'f')) => None,
+            (b'X', Some(_)) | (b'i' | b'I' | b'l' | b'L' | b's', _) => size(),
+            (b'!', _) => numeral(4, |limit| (!limit.is_power_of_two()).then_some(5)),
+            (b'c', _) => match self.numeral {
+                Numeral::Absent => Some(8),
+                Numeral::TooLarge => Some(2),
+                Numeral::Number(_) => None,
+            },
+            (b'x' | b'<' | b'>' | b'=', _) => None,
+            (option, _) => (!is_blank(option) && !self.has_value()).then_some(1),
         }
     }
 

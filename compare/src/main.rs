@@ -14,6 +14,7 @@ mod ours;
 mod page;
 mod prefixes;
 mod properties;
+mod range;
 mod read;
 mod record;
 mod report;
@@ -49,6 +50,7 @@ fn main() -> ExitCode {
         "read" => (&[("seed", 1), ("cases", 6_000_000)], 0..=0),
         "tray" => (&[("seed", 1), ("cases", 1_000_000), ("length", 4), ("cap", 100_000)], 0..=0),
         "prefixes" => (&[], 0..=0),
+        "range" => (&[("seed", 1), ("cases", 1_000_000), ("length", 4)], 0..=0),
         "dates" => (&[("seed", 1), ("cases", 1_000_000)], 0..=0),
         "properties" => (&[("seed", 1), ("cases", 1_000_000)], 0..=0),
         "record" => (&[], 1..=1),
@@ -95,6 +97,7 @@ fn run(command: &str, arguments: &Arguments) -> ExitCode {
         ("read", _) => read::run(number("seed"), number("cases")),
         ("tray", _) => tray::run(number("seed"), number("cases"), number("length") as u32, number("cap")),
         ("prefixes", _) => prefixes::run().finish(),
+        ("range", _) => range::run(number("seed"), number("cases"), number("length") as u32),
         ("dates", _) => dates::run(number("seed"), number("cases")).finish(),
         ("properties", _) => properties::run(number("seed"), number("cases")).finish(),
         ("record", Some(directory)) => record::run(directory),

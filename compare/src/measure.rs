@@ -44,7 +44,12 @@ pub fn run(seed: u64, cases: u64, length: u32) -> ExitCode {
 
 /// Every format of up to two bytes, then every one of up to `length` bytes over the alphabet.
 pub fn every_format(length: u32) -> impl Iterator<Item = Measured> {
-    r#gen::every_over(every_byte(), 2).chain(r#gen::every_over(ALPHABET.to_vec(), length)).map(Measured)
+    short_formats(length).map(Measured)
+}
+
+/// The same, for other calls.
+pub fn short_formats(length: u32) -> impl Iterator<Item = Vec<u8>> {
+    r#gen::every_over(every_byte(), 2).chain(r#gen::every_over(ALPHABET.to_vec(), length))
 }
 
 /// How many these are.

@@ -5,6 +5,13 @@
 
 unsafe extern "C" {
     fn digribbon_packsize(format: *const u8, format_length: usize, answer: *mut u64) -> u64;
+    fn digribbon_packsize_range(
+        format: *const u8,
+        format_length: usize,
+        pairs: *const u8,
+        pairs_length: usize,
+        answer: *mut u64,
+    ) -> u64;
     fn digribbon_list_bound(format: *const u8, format_length: usize, data_length: u64, answer: *mut u64) -> u64;
     fn digribbon_pack(
         format: *const u8,
@@ -71,6 +78,13 @@ fn answered<const N: usize>(call: impl FnOnce(*mut u64) -> u64) -> Result<[u64; 
 pub fn packsize(format: &[u8]) -> Result<u64, u64> {
     // SAFETY: here and below each slice is lent as its pointer and its length, and an answer has the room its call fills.
     answered::<1>(|answer| unsafe { digribbon_packsize(format.as_ptr(), format.len(), answer) }).map(|[size]| size)
+}
+
+/// The least and the greatest size of a record whose texts have lengths within the pairs.
+pub fn packsize_range(format: &[u8], pairs: &[u8]) -> Result<[u64; 2], u64> {
+    answered::<2>(|answer| unsafe {
+        digribbon_packsize_range(format.as_ptr(), format.len(), pairs.as_ptr(), pairs.len(), answer)
+    })
 }
 
 /// The list bound.

@@ -189,7 +189,7 @@ fn counted(case: &Written, answer: &Continued) -> Held {
 
 /// The measure of a format is the length of each of its records; with z or s it is 10.
 fn size(case: &Written, record: &[u8]) -> Held {
-    let open = items(&case.format).iter().any(|item| matches!(item.option, b'z' | b's'));
+    let open = items(&case.format).iter().any(Item::is_open);
     let expected = if open { Err(10) } else { Ok(record.len() as u64) };
     let measured = ours::packsize(&case.format);
     hold(measured == expected, || format!("measured {measured:?}, written {expected:?}"))
@@ -404,39 +404,10 @@ fn through_single(bits: u64) -> u64 {
 
 // ---- measuring and the list bound, by the items
 
-/// The refusal of an item by itself: 1 to 8, but for 6.
-fn refusal(item: &Item) -> Option<u64> {
-    let numeral = |number: u64, admitted: fn(u64) -> Option<u64>| match item.numeral {
-        Numeral::TooLarge => Some(2),
-        Numeral::Absent => None,
-        Numeral::Number(n) if !(1..=16).contains(&n) => Some(number),
-        Numeral::Number(n) => admitted(n),
-    };
-    let size = || numeral(3, |_| None);
-    match (item.option, item.aligned) {
-        (b'X', Some(128..)) => Some(1),
-        (b'X', None | Some(b'X' | b'<' | b'>' | b'=' | b'!' | b'c' | b's' | b'z' | b'x')) => Some(7),
-        (b'X', Some(next)) if is_blank(next) => Some(7),
-        (b'X', Some(b'f')) => None,
-        (b'X', Some(_)) | (b'i' | b'I' | b'l' | b'L' | b's', _) => size(),
-        (b'!', _) => numeral(4, |limit| (!limit.is_power_of_two()).then_some(5)),
-        (b'c', _) => match item.numeral {
-            Numeral::Absent => Some(8),
-            Numeral::TooLarge => Some(2),
-            Numeral::Number(_) => None,
-        },
-        (b'b' | b'B' | b'h' | b'H' | b'j' | b'J' | b'T' | b'f' | b'd' | b'n' | b'z' | b'x' | b'<' | b'>' | b'=', _) => {
-            None
-        }
-        (option, _) => (!is_blank(option)).then_some(1),
-    }
-}
-
 /// "start at an offset that is a multiple of min(size, limit) .. zeros fill up", also "writing and reading s", by the size of
 /// its length; and X "aligns only". Else "6 min(size, limit) above 1 and no power of two".
 fn padding(item: &Item, settings: Settings, length: u64) -> Result<u64, u64> {
-    let natural = item.size().or(item.prefix()).or(item.natural()).unwrap_or(1);
-    settings.padding(natural, length).ok_or(6)
+    settings.padding(item.aligned_by(), length).ok_or(6)
 }
 
 /// Sums over the items; 9 above 2^63-1. `add` gives what an item adds to the sum before it.
@@ -444,7 +415,7 @@ fn sum(format: &[u8], add: impl Fn(&Item, Settings, u64) -> Result<u64, u64>) ->
     let mut settings = Settings::START;
     let mut sum = 0;
     for item in items(format) {
-        if let Some(number) = refusal(&item) {
+        if let Some(number) = item.refusal() {
             return Err(number);
         }
         let more = add(&item, settings, sum)?;

@@ -1,13 +1,15 @@
 //! The original's answers to a fixed list of calls, as the text that our program `conformance` reads: its src/recorded.rt
 //! begins with their form, its src/reader.rt with that of bytes.
 //!
-//! A replay compares refusals only as refusals, and those of trays by their place. No case has a NaN from reading f, so all else is the same to the bit.
+//! A replay compares refusals only as refusals, those of trays by their place, and those of ranges by their number. No case has a
+//! NaN from reading f, so all else is the same to the bit.
 
 use crate::domain::{self, Verdict};
 use crate::r#gen::{self, Random, Use};
 use crate::items::items;
 use crate::original::{Original, Outcome};
 use crate::prefixes::{self, Answered};
+use crate::range::{self, as_pairs};
 use crate::read::some_readings;
 use crate::report::Named;
 use crate::tray::{self, Stop, Tray, as_run};
@@ -30,6 +32,7 @@ pub fn run(path: &str) -> ExitCode {
     read(&mut recording);
     trays(&mut recording);
     prefixed(&mut recording);
+    ranges(&mut recording);
     for (call, unmeasured) in [("m", "zs"), ("w", ""), ("r", "")] {
         let lacks =
             |option: &char| !recording.options.contains(&(call, *option as u8)) && !unmeasured.contains(*option);
@@ -147,6 +150,18 @@ impl Recording {
         };
         self.add("t", format, &[run_of(run)], REFUSED, &[String::new(), place.to_string()]);
     }
+
+    /// Both lengths, or the refusal's number, are the plain reading's.
+    fn range(&mut self, format: &[u8], pairs: &[u8]) {
+        if format.len().max(pairs.len()) > LONGEST {
+            return;
+        }
+        let arguments = [pairs_of(pairs)];
+        match range::read(format, pairs) {
+            Ok(lengths) => self.add("l", format, &arguments, ACCEPTED, &lengths.map(|length| length.to_string())),
+            Err(number) => self.add("l", format, &arguments, REFUSED, &[number.to_string()]),
+        }
+    }
 }
 
 // ---- bytes in the notation of our programs
@@ -192,6 +207,15 @@ fn run_of(run: &[u8]) -> String {
     let fields = |list: &[u8]| decode(list).map_or_else(|| bytes_of(list), |values| list_of(&values));
     let listed = |list: &[u8]| format!("{:04X} {}", list.len(), fields(list)).trim_end().to_string();
     lists.into_iter().map(listed).collect::<Vec<_>>().join(" ")
+}
+
+/// Pairs: each number by its two bytes, and the bytes of a part.
+fn pairs_of(pairs: &[u8]) -> String {
+    pairs
+        .chunks(2)
+        .map(|bytes| bytes.iter().map(|byte| format!("{byte:02X}")).collect::<String>())
+        .collect::<Vec<_>>()
+        .join(" ")
 }
 
 // ---- formats that bring up each option, size, alignment, limit and refusal
@@ -712,5 +736,41 @@ fn prefixed(recording: &mut Recording) {
         let read = if written.is_empty() { vec![] } else { vec![list_of(&values), (data.len() + 1).to_string()] };
         recording.add("w", &format, &[list_of(&values)], mark, &written);
         recording.add("r", &format, &[bytes_of(&data), "1".to_string()], mark, &read);
+    }
+}
+
+// ---- ranges of lengths, which the original doesn't have
+
+fn ranges(recording: &mut Recording) {
+    recording.group("ranges of lengths, by a plain reading: what the request says");
+    range::SAID.iter().for_each(|(format, pairs, _)| recording.range(format.as_bytes(), pairs));
+    recording.group("ranges of lengths: z and each s at each limit, and what aligns behind");
+    for (limit, text) in
+        LIMITS.iter().flat_map(|limit| ["z", "s", "s1", "s2", "s3", "s4", "s8", "s16"].map(|text| (limit, text)))
+    {
+        recording.range(format!("{limit}b{text}i").as_bytes(), &as_pairs([[2, 7]]));
+    }
+    recording.group("ranges of lengths: the checks of a text");
+    let pairs = [[0, 255], [0, 256], [256, 255], [257, 256], [255, 65_535], [65_535, 0]];
+    for (text, pair) in ["z", "s1", "s2", "s"].iter().flat_map(|text| pairs.map(|pair| (text, pair))) {
+        recording.range(text.as_bytes(), &as_pairs([pair]));
+    }
+    recording.group("ranges of lengths: a refused item before a text and behind it");
+    for item in ["q", "c", "i17", "i18446744073709551616", "!0", "!3", "!4i3", "X", "c9223372036854775808", "s17"] {
+        for pairs in [as_pairs([]), as_pairs([[0, 1]]), as_pairs([[1, 0]]), vec![0, 1]] {
+            recording.range(format!("{item} z").as_bytes(), &pairs);
+            recording.range(format!("z{item}").as_bytes(), &pairs);
+        }
+    }
+    recording.group("ranges of lengths: about 2^63-1");
+    for (less, texts) in
+        [0, 1, 3, 9, 17].iter().flat_map(|less| ["z", "zq", "s1", "s", "!4zXi", "!8 zd"].map(|texts| (less, texts)))
+    {
+        recording.range(format!("c{}{texts}", i64::MAX - less).as_bytes(), &as_pairs([[0, 2]]));
+    }
+    recording.group("ranges of lengths: random formats and pairs");
+    for seed in 5000..5080 {
+        let case = range::drawn(&mut Random::new(seed));
+        recording.range(&case.format, &case.pairs);
     }
 }

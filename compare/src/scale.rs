@@ -9,6 +9,7 @@ use crate::original::Original;
 use crate::page;
 use crate::prefixes;
 use crate::properties;
+use crate::range;
 use crate::read;
 use crate::report::{Check, Count, Tally, grouped};
 use crate::tray;
@@ -78,6 +79,8 @@ fn compare_all(numbers: &Numbers, module: bool) -> Result<(Vec<Tally>, String), 
     others.lua.finish()?;
     tallies.push(tray::against_single_calls(seed, cases, length));
     tallies.push(prefixes::run());
+    tallies.push(range::against_reading(seed, cases, length));
+    tallies.push(range::against_calls(seed, cases, length));
     tallies.push(dates::run(seed, cases));
     tallies.push(properties::run(seed, cases));
     Ok((tallies, version))

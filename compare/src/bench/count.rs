@@ -12,6 +12,7 @@
 
 use super::dates::{self, Call, Work};
 use super::parts::{self, Way};
+use super::range;
 use super::trays::{self, Trays};
 use super::workloads::{Workload, growing, with_goals};
 use crate::r#gen::Random;
@@ -82,7 +83,7 @@ impl Heap {
 }
 
 /// The counted program: two empty calls, then each workload by the original and by ours, then records in parts, then trays,
-/// then dates, then the stand-ins.
+/// then dates, then ranges of lengths, then the stand-ins.
 pub fn counted() {
     count(REPEATS, &mut (), |()| (), |()| ());
     count_ours(REPEATS, &mut || ());
@@ -104,6 +105,10 @@ pub fn counted() {
     for call in Call::ALL {
         count_dates(call, dates::EMPTY);
         dates::SIDES.into_iter().for_each(|(_, side)| count_dates(call, side));
+    }
+    for ranges in range::all() {
+        count_ours(REPEATS, &mut ranges.ours());
+        count_ours(REPEATS, &mut ranges.measurings());
     }
     STAND_INS.iter().for_each(|(_, stand_in)| count_stand_in(*stand_in));
 }
@@ -173,6 +178,7 @@ fn count_stand_in(stand_in: StandIn) {
 
 // ---- the counts
 
+#[derive(Default)]
 pub struct Counts {
     /// For each workload, of the original and of ours.
     pub workloads: Vec<[f64; 2]>,
@@ -182,6 +188,8 @@ pub struct Counts {
     pub trays: Vec<TrayCounts>,
     /// For each call about dates, of each side.
     pub dates: Vec<[f64; 4]>,
+    /// For each range, of ours and of the two measurings.
+    pub ranges: Vec<[f64; 2]>,
     /// The stand-ins' parts by name, of one use.
     pub stand_ins: Vec<(&'static str, f64)>,
 }
@@ -200,7 +208,7 @@ pub fn counts<'a>(workloads: impl Iterator<Item = &'a Workload>, folder: &Path) 
     let mut next = || files.next().ok_or_else(|| "valgrind gave too few counts.".to_string());
     let mut per_call = |repeats: u64| next().map(|count| count as f64 / repeats as f64);
     let (empty, empty_ours) = (per_call(REPEATS)?, per_call(REPEATS)?);
-    let mut all = Counts { workloads: vec![], parts: vec![], trays: vec![], dates: vec![], stand_ins: vec![] };
+    let mut all = Counts::default();
     for workload in workloads {
         let repeats = repeats(workload);
         all.workloads.push([per_call(repeats)? - empty, per_call(repeats)? - empty_ours]);
@@ -218,6 +226,9 @@ pub fn counts<'a>(workloads: impl Iterator<Item = &'a Workload>, folder: &Path) 
         let empty = per_call(DATES)?;
         let sides = [per_call(DATES)?, per_call(DATES)?, per_call(DATES)?, per_call(DATES)?];
         all.dates.push(sides.map(|count| count - empty));
+    }
+    for _ in range::all() {
+        all.ranges.push([per_call(REPEATS)?, per_call(REPEATS)?].map(|count| count - empty_ours));
     }
     for (name, _) in STAND_INS {
         all.stand_ins.push((name, (per_call(REPEATS)? - empty) / TIMES as f64));

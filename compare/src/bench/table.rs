@@ -2,10 +2,11 @@
 
 use super::dates::{self, APART, Call, INPUTS, SIDES};
 use super::parts::{self, Way};
+use super::range;
 use super::time::{LEAST, SAMPLES};
 use super::trays::{GOAL, RECORDS, Trays};
 use super::workloads::{COUNTS, Goal, Kind};
-use super::{Costs, DatesRow, Report, Row, TrayCosts, TrayRow};
+use super::{Costs, DatesRow, RangeRow, Report, Row, TrayCosts, TrayRow};
 use crate::page;
 use crate::report::grouped;
 use std::fmt::Write;
@@ -20,6 +21,7 @@ pub fn tables(report: &Report) -> String {
     trays(&mut text, &report.trays);
     growing_trays(&mut text, &report.growing_trays);
     dates(&mut text, &report.dates);
+    ranges(&mut text, &report.ranges);
     text
 }
 
@@ -164,6 +166,38 @@ fn dates_line(
     let name = call.name();
     let _ =
         writeln!(text, "| {name}, {what} | {costs} | {mark}{ratio:.2}{mark} | {goal} | {checked:.2} | {library:.2} |");
+}
+
+/// For each format a row of instructions and one of time.
+fn ranges(text: &mut String, rows: &[RangeRow]) {
+    let [least, greatest] = range::TEXTS;
+    let _ = write!(
+        text,
+        "\nThe least and greatest length of a record whose texts have {least} to {greatest} bytes, beside two measurings of it with \
+         `c` in place of the texts; a ratio in bold misses its goal:\n\n\
+         | format, cost | range | two measurings | ratio | goal |\n|---|---|---|---|---|\n"
+    );
+    for row in rows {
+        range_line(text, row, "instructions", row.instructions, Some(range::GOAL), |count| {
+            grouped(count.round() as u64)
+        });
+        range_line(text, row, "time", row.nanoseconds, None, duration);
+    }
+}
+
+fn range_line(
+    text: &mut String,
+    row: &RangeRow,
+    what: &str,
+    costs: [f64; 2],
+    goal: Option<f64>,
+    shown: impl Fn(f64) -> String,
+) {
+    let ratio = costs[0] / costs[1];
+    let mark = if goal.is_some_and(|goal| ratio > goal) { "**" } else { "" };
+    let goal = goal.map_or(String::new(), |goal| format!("{goal:?}"));
+    let costs = costs.map(shown).join(" | ");
+    let _ = writeln!(text, "| {}, {what} | {costs} | {mark}{ratio:.2}{mark} | {goal} |", row.ranges.name);
 }
 
 /// A mean, with a digit behind the point where it is small.

@@ -1,11 +1,12 @@
-//! Time per call of ours and of the original, of trays beside single calls, and of calls about dates beside their peers:
-//! processor time, by the clock that Lua's os.clock reads too.
+//! Time per call of ours and of the original, of trays beside single calls, of calls about dates beside their peers, and of ranges
+//! of lengths beside measuring: processor time, by the clock that Lua's os.clock reads too.
 //!
 //! A sample is as many calls as take a millisecond, at least one. Samples of each side take turns; the least of each counts.
 //! Speed depends on where in memory buffers lie, so they are made anew at other places some times. Of the original,
 //! freeing its results is part of a call.
 
 use super::dates::{Call, INPUTS, SIDES, Work};
+use super::range::Ranges;
 use super::trays::Trays;
 use super::workloads::Workload;
 use std::hint::black_box;
@@ -85,6 +86,15 @@ pub fn times_of_dates(call: Call) -> [f64; 4] {
         sample_in_turns([&mut ours, &mut bare, &mut checked, &mut library], &mut least);
     }
     least.map(|nanoseconds| nanoseconds / INPUTS as f64)
+}
+
+/// Nanoseconds of a range of lengths, and of the two measurings beside it.
+pub fn times_of_range(ranges: &Ranges) -> [f64; 2] {
+    let mut least = [f64::INFINITY; 2];
+    for _ in 0..PLACES {
+        sample_in_turns([&mut ranges.ours(), &mut ranges.measurings()], &mut least);
+    }
+    least
 }
 
 fn sample_in_turns<const N: usize>(mut sides: [&mut dyn FnMut(); N], least: &mut [f64; N]) {
