@@ -1,4 +1,4 @@
-/* What test.c and dates.c check with: a check that fails ends the program and says where. */
+/* What test.c, ranges.c and dates.c check with: a check that fails ends the program and says where. */
 #ifndef CHECK_H
 #define CHECK_H
 

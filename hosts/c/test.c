@@ -1,6 +1,6 @@
 /*
- * The header's calls over formats and value lists, from C; dates.c has those about days and dates. The last line says
- * how many checks passed.
+ * The header's calls over formats and value lists, from C; ranges.c has the one over text lengths, dates.c those about
+ * days and dates. The last line says how many checks passed.
  */
 #include "check.h"
 #include "digribbon.h"
@@ -394,15 +394,16 @@ static void test_list_after(void)
     goes_on(nothing, 1, 0);
 }
 
-/* The table has the numbers 1 to 26, each with a name, a cause and a sentence. */
+/* The table has the numbers 1 to 27, each with a name, a cause and a sentence. */
 static void test_table(void)
 {
     unsigned last = 0;
 #define NEXT(number, name, cause, sentence) \
     CHECK(number == ++last && name == number && strlen(cause) > 0 && sentence[strlen(sentence) - 1] == '.');
     DIGRIBBON_REFUSALS(NEXT)
-    CHECK(last == 26 && DIGRIBBON_RESULT_TOO_LONG == 22 && DIGRIBBON_DAMAGED_RUN == 23);
+    CHECK(last == 27 && DIGRIBBON_RESULT_TOO_LONG == 22 && DIGRIBBON_DAMAGED_RUN == 23);
     CHECK(DIGRIBBON_NO_SUCH_DATE == 24 && DIGRIBBON_DAY_TOO_LARGE == 25 && DIGRIBBON_MONTHS_OUTSIDE == 26);
+    CHECK(DIGRIBBON_LEAST_ABOVE_GREATEST == 27);
 }
 
 static void test_version(void)

@@ -2,11 +2,12 @@
  * A fuzz target over the calls of the header, for libFuzzer. An input is
  *   - a byte each: flags; the state; where the format is cut; the start; the format's length;
  *   - the format;
- *   - the bytes of which values, data, days and dates are made.
+ *   - the bytes of which values, data, text lengths, days and dates are made.
  *
  * Slices lie at pages that can't be touched, or the result right behind the values or the data. After each call every
  * lent byte is looked at. Then what the calls promise together: sizes, counts, 21 first and 22 last, parts, reading
- * back with other bytes as padding, writing again, bounds, trays of single records, days and dates there and back.
+ * back with other bytes as padding, writing again, bounds, trays of single records, record lengths before the texts are
+ * known, days and dates there and back.
  */
 #include "../include/digribbon.h"
 #include "coverage.h"
@@ -112,9 +113,9 @@ static uint8_t *kept_start(Slice bytes)
 
 /* ---- the calls, and every lent byte after them */
 
-__attribute__((section("__libfuzzer_extra_counters"))) static uint8_t seen[9][NUMBERS];
+__attribute__((section("__libfuzzer_extra_counters"))) static uint8_t seen[10][NUMBERS];
 
-enum { MEASURING, BOUND, PLAIN, CONTINUED, READING, TRAY, DAY_NUMBER, DATE, LAST_DAY };
+enum { MEASURING, BOUND, PLAIN, CONTINUED, READING, TRAY, RANGE, DAY_NUMBER, DATE, LAST_DAY };
 
 static Outcome nothing_yet(void)
 {
@@ -124,6 +125,8 @@ static Outcome nothing_yet(void)
 /* Whether a call may give such a number. */
 static bool is_known(int call, uint64_t number)
 {
+    if (call == RANGE)
+        return number <= 9 || number == 11 || number == 15 || number == 21 || number == 27;
     if (call < DAY_NUMBER)
         return number <= (call == TRAY ? 23 : 22);
     return number == 0 || (number >= 24 && number <= (call == LAST_DAY ? 26 : 25));
@@ -212,6 +215,17 @@ static Outcome pack_tray(Slice format, Slice run, size_t room)
     outcome.place = place[0];
     check_words(&outcome, TRAY, 1);
     check_bytes(&outcome, format, run, room, outcome.words[0]);
+    return outcome;
+}
+
+static Outcome packsize_range(Slice format, Slice pairs)
+{
+    Outcome outcome = nothing_yet();
+    lend_room(0);
+    outcome.number = digribbon_packsize_range(lend(FORMAT, format), format.length, lend(SOURCE, pairs), pairs.length,
+                                              outcome.words);
+    check_words(&outcome, RANGE, 2);
+    check_bytes(&outcome, format, pairs, 0, 0);
     return outcome;
 }
 
@@ -603,6 +617,139 @@ static void check_tray(Slice format, Slice run)
     HOLD(shorter.number == 22 && shorter.place == 0);
 }
 
+/* ---- text lengths */
+
+enum { PAIR = 4 };
+
+typedef struct {
+    size_t least, greatest;
+} Pair;
+
+static Pair pair_at(Slice pairs, size_t at)
+{
+    const uint8_t *pair = pairs.start + at;
+    return (Pair){(size_t)pair[0] * 256 + pair[1], (size_t)pair[2] * 256 + pair[3]};
+}
+
+static bool has_reversed(Slice pairs)
+{
+    for (size_t at = 0; at < pairs.length; at += PAIR)
+        if (pair_at(pairs, at).least > pair_at(pairs, at).greatest)
+            return true;
+    return false;
+}
+
+/* Pairs of bytes: two for each, and the lesser length is its first. */
+static Slice pairs_of(Slice bytes)
+{
+    uint8_t *pairs = kept_start(keep((Slice){(const uint8_t *)"", 0}));
+    size_t length = 0;
+    for (size_t at = 0; at + 2 <= bytes.length; at += 2) {
+        size_t first = text_length(bytes.start[at]), second = text_length(bytes.start[at + 1]);
+        size_t least = lesser(first, second), greatest = first + second - least;
+        uint8_t pair[PAIR] = {(uint8_t)(least / 256), (uint8_t)least, (uint8_t)(greatest / 256), (uint8_t)greatest};
+        memcpy(pairs + length, pair, PAIR);
+        length += PAIR;
+    }
+    return (Slice){pairs, length};
+}
+
+static size_t count_texts(Slice format)
+{
+    size_t count = 0;
+    for (size_t at = 0; at < format.length; at = item_at(format, at).end)
+        count += is_one_of(item_at(format, at).option, "zs");
+    return count;
+}
+
+/* Puts a field: a text of so many letters under c, z and s, else the integer 0. */
+static size_t put_field(uint8_t *at, Item item, size_t letters)
+{
+    bool is_text = is_one_of(item.option, "czs");
+    size_t length = is_text ? letters : 8;
+    memcpy(at, (uint8_t[]){is_text ? TEXT : INTEGER, (uint8_t)(length / 256), (uint8_t)length}, 3);
+    memset(at + 3, is_text ? 'A' : 0, length);
+    return 3 + length;
+}
+
+/*
+ * Values that suit the items. The texts under z and s have the least lengths of their pairs (0), some between (1) or
+ * the greatest (2). The list ends before the first text without a pair, or with a reversed one. Nothing where it is too
+ * long.
+ */
+static Slice list_within(Slice format, Slice pairs, size_t where)
+{
+    uint8_t *list = kept_start(keep((Slice){(const uint8_t *)"", 0}));
+    size_t length = 0, next = 0;
+    for (size_t at = 0; at < format.length; at = item_at(format, at).end) {
+        Item item = item_at(format, at);
+        size_t letters = 0;
+        if (is_one_of(item.option, "zs")) {
+            if (next == pairs.length || pair_at(pairs, next).least > pair_at(pairs, next).greatest)
+                break;
+            letters = pair_at(pairs, next).least;
+            letters += (pair_at(pairs, next).greatest - letters) * where / 2;
+            next += PAIR;
+        }
+        if (length + 11 + letters > REGION / 4 * 3)
+            return (Slice){NULL, 0};
+        if (takes_value(item))
+            length += put_field(list + length, item, letters);
+    }
+    return (Slice){list, length};
+}
+
+/* Texts of the least lengths give the least length of a record, of the greatest the greatest; others lie between. */
+static void check_records_within(Slice format, Slice pairs, const Outcome *range)
+{
+    for (size_t where = 0; where <= 2; where++) {
+        Slice list = list_within(format, pairs, where);
+        Outcome record;
+        if (list.start == NULL)
+            return;
+        record = pack_plainly(format, list, REGION);
+        HOLD(record.number == 0 || record.number == 22);
+        if (record.number == 22)
+            HOLD(range->words[where == 0 ? 0 : 1] > REGION);
+        else
+            HOLD(where == 1 ? range->words[0] <= record.result.length && record.result.length <= range->words[1]
+                            : range->words[where / 2] == record.result.length);
+    }
+}
+
+/* A refusal is that of writing texts of the greatest lengths; 27 where such a text is missing by a reversed pair. */
+static void check_refused_range(Slice format, Slice pairs, uint64_t number)
+{
+    Slice list = list_within(format, pairs, 2);
+    Outcome record;
+    if (list.start == NULL)
+        return;
+    record = pack_plainly(format, list, REGION);
+    HOLD(number == (record.number == 11 && has_reversed(pairs) ? 27 : record.number));
+}
+
+/* 21 first. An accepted call takes a pair for each z and s, and no others are looked at; without them it measures. */
+static void check_range(Slice format, Slice pairs)
+{
+    Outcome range = packsize_range(format, pairs), other = measure(format);
+    size_t taken = PAIR * count_texts(format);
+    HOLD((range.number == 21) == (pairs.length % PAIR != 0));
+    if (range.number == 21)
+        return;
+    if (taken == 0)
+        HOLD(range.number == other.number && range.words[0] == other.words[0] && range.words[1] == other.words[0]);
+    if (range.number != 0) {
+        check_refused_range(format, pairs, range.number);
+        return;
+    }
+    HOLD(range.words[0] <= range.words[1] && range.words[1] <= LARGEST && taken <= pairs.length);
+    other = packsize_range(format, (Slice){pairs.start, taken});
+    HOLD(other.number == 0 && other.words[0] == range.words[0] && other.words[1] == range.words[1]);
+    if (taken > 0)
+        HOLD(packsize_range(format, (Slice){pairs.start, taken - PAIR}).number == 11);
+    check_records_within(format, pairs, &range);
+}
+
 /* ---- dates */
 
 /* An accepted date comes back from its number. Every month has 28 days, and none has 32. */
@@ -677,7 +824,7 @@ int LLVMFuzzerTestOneInput(const uint8_t *input, size_t size)
 {
     enum { FLAGS, STATE, CUT, FROM, LENGTH, HEAD, RAW_LIST = 1, AT_FRONT = 2, STRETCHED = 4, BEHIND = 8, CUT_RUN = 16 };
     static const uint64_t edges[] = {0, 65535, 65536, LARGEST, LARGEST + 1, UINT64_MAX};
-    Slice format, rest, list, data, run;
+    Slice format, rest, list, data, run, pairs;
     Numbers numbers;
     Outcome whole;
     if (size < HEAD || size > 4096)
@@ -705,6 +852,11 @@ int LLVMFuzzerTestOneInput(const uint8_t *input, size_t size)
     if ((input[FLAGS] & CUT_RUN) != 0)
         run.length -= lesser(run.length, input[CUT] % 4);
     check_tray(format, run);
+    next_kept = 0;
+    pairs = (input[FLAGS] & RAW_LIST) != 0 ? (Slice){rest.start, rest.length / PAIR * PAIR} : pairs_of(rest);
+    if ((input[FLAGS] & CUT_RUN) != 0)
+        pairs.length -= lesser(pairs.length, input[CUT] % PAIR);
+    check_range(format, pairs);
     numbers = numbers_of(rest.start, rest.length);
     check_date(numbers.year, numbers.month, numbers.day);
     check_day(numbers.number);

@@ -2,7 +2,7 @@
  * A fuzz target over the Lua module, for libFuzzer, with memory that can't be had. An input is
  *   - a byte each: the function; the float environment; the state or the start; the format's length;
  *   - the format;
- *   - the bytes of which values, data, days and dates are made.
+ *   - the bytes of which values, data, text lengths, days and dates are made.
  *
  * The function is called where 0, 1, 2 .. blocks of memory can be had, until these suffice. Each lack of memory must be
  * raised as Lua's error, and leave a writer as it was. Then what the function gives is held to the header's calls. All
@@ -19,7 +19,7 @@
 #include <xmmintrin.h>
 
 enum { ROOM = 1 << 20, LARGEST_BLOCK = 1 << 22, SLACK = 1 << 20, TRIES = 40 };
-enum { VALUES = 100, RECORDS = 12, LONGEST = 65535 };
+enum { VALUES = 100, RECORDS = 12, LONGEST = 65535, PAIR = 4, PAIRS = 1000 };
 
 #define HOLD(promise) \
     do { \
@@ -176,6 +176,56 @@ static void push_lists(lua_State *L, Slice bytes, size_t format_length)
     }
 }
 
+static struct {
+    uint8_t bytes[PAIR * PAIRS];
+    size_t length;
+    bool has_bad_pair;
+} pairs;
+
+/* Pushes a number as an integer, or as the float that equals it. */
+static void push_integer(lua_State *L, int64_t number, bool as_float)
+{
+    if (as_float && number == (int32_t)number)
+        lua_pushnumber(L, (lua_Number)number);
+    else
+        lua_pushinteger(L, number);
+}
+
+/* Pushes a pair of three bytes, and adds it. By the first of them it may be no table, lack a length, or be too long. */
+static void push_pair(lua_State *L, const uint8_t bytes[3])
+{
+    enum { NO_TABLE = 29, ONE_LENGTH, TOO_LONG };
+    int kind = bytes[0] % 32, least = bytes[1], greatest = bytes[0] < 64 ? bytes[2] : bytes[1] + bytes[2] * 256;
+    uint8_t pair[PAIR] = {0, (uint8_t)least, (uint8_t)(greatest / 256), (uint8_t)greatest};
+    memcpy(pairs.bytes + pairs.length, pair, PAIR);
+    pairs.length += PAIR;
+    pairs.has_bad_pair = pairs.has_bad_pair || kind >= NO_TABLE;
+    if (kind == NO_TABLE) {
+        lua_pushinteger(L, least);
+        return;
+    }
+    lua_createtable(L, 2, 0);
+    push_integer(L, kind == TOO_LONG ? LONGEST + 1 : least, kind % 2 == 0);
+    lua_rawseti(L, -2, 1);
+    if (kind == ONE_LENGTH)
+        return;
+    push_integer(L, greatest, kind % 3 == 0);
+    lua_rawseti(L, -2, 2);
+}
+
+/* Pushes a table of pairs. A byte before each says how often it stands there. */
+static void push_lengths(lua_State *L, Slice bytes)
+{
+    pairs.length = 0;
+    pairs.has_bad_pair = false;
+    lua_newtable(L);
+    for (; bytes.length >= 4; bytes = (Slice){bytes.start + 4, bytes.length - 4})
+        for (int times = bytes.start[0] < 240 ? 1 : 100; times > 0 && pairs.length < sizeof pairs.bytes; times--) {
+            push_pair(L, bytes.start + 1);
+            lua_rawseti(L, -2, (lua_Integer)(pairs.length / PAIR));
+        }
+}
+
 /* ---- what a function gave, from the stack's index `first` on */
 
 static void check_results(lua_State *L, int first)
@@ -241,20 +291,11 @@ static void check_refusal(lua_State *L, bool is_writing, uint64_t record)
 
 /* ---- an input */
 
-enum { PACK, PACKSIZE, UNPACK, WRITER, TRAY, DAY_NUMBER, DATE, LAST_DAY, FUNCTIONS };
+enum { PACK, PACKSIZE, UNPACK, WRITER, TRAY, RANGE, DAY_NUMBER, DATE, LAST_DAY, FUNCTIONS };
 
 static lua_State *lua;
 static int module;
 static size_t memory_at_start;
-
-/* Pushes a number as an integer, or as the float that equals it. */
-static void push_integer(lua_State *L, int64_t number, bool as_float)
-{
-    if (as_float && number == (int32_t)number)
-        lua_pushnumber(L, (lua_Number)number);
-    else
-        lua_pushinteger(L, number);
-}
 
 /* Pushes the arguments of a function about days or dates, and works out what is expected. */
 static void prepare_dates(int function, Slice rest, bool as_float)
@@ -279,8 +320,8 @@ static void prepare_dates(int function, Slice rest, bool as_float)
 /* Pushes the function and its arguments, and works out what is expected. */
 static void prepare(int function, State from, int64_t start, Slice format, Slice rest)
 {
-    static const char *const names[] = {"pack", "packsize", "unpack", "writer", "pack_tray", "day_number",
-                                        "date", "last_day"};
+    static const char *const names[] = {"pack",           "packsize",   "unpack", "writer",  "pack_tray",
+                                        "packsize_range", "day_number", "date",   "last_day"};
     lua_rawgeti(lua, LUA_REGISTRYINDEX, module);
     lua_getfield(lua, -1, names[function]);
     if (function == WRITER) {
@@ -304,6 +345,10 @@ static void prepare(int function, State from, int64_t start, Slice format, Slice
         lua_pushinteger(lua, start);
         expected.number = digribbon_unpack(format.start, format.length, rest.start, rest.length, start,
                                            expected.result, ROOM, expected.words);
+    } else if (function == RANGE) {
+        push_lengths(lua, rest);
+        expected.number = digribbon_packsize_range(format.start, format.length, pairs.bytes, pairs.length,
+                                                   expected.words);
     } else if (function == TRAY) {
         push_lists(lua, rest, format.length);
         expected.number = digribbon_pack_tray(format.start, format.length, run.bytes, run.length, expected.result, ROOM,
@@ -341,6 +386,10 @@ static void check(int function, int status, int first, const State *state, State
         HOLD(status == LUA_ERRRUN && is_too_long(lua));
         return;
     }
+    if (function == RANGE && pairs.has_bad_pair) {
+        HOLD(status == LUA_ERRRUN && lua_type(lua, -1) == LUA_TSTRING && strstr(lua_tostring(lua, -1), "(pair "));
+        return;
+    }
     if (expected.number == DIGRIBBON_RESULT_TOO_LONG) { /* only the result's length is in the way */
         HOLD(status == LUA_OK || status == LUA_ERRMEM);
         return;
@@ -353,8 +402,8 @@ static void check(int function, int status, int first, const State *state, State
         HOLD((uint64_t)lua_tointeger(lua, first) == expected.words[0]);
     } else if (function == UNPACK) {
         check_results(lua, first);
-    } else if (function >= DAY_NUMBER) {
-        check_words(lua, first, function == DATE ? 3 : 1);
+    } else if (function >= RANGE) {
+        check_words(lua, first, function == RANGE ? 2 : function == DATE ? 3 : 1);
     } else {
         check_record(lua, first);
         HOLD(function != WRITER || ((uint64_t)lua_tointeger(lua, first + 1) == expected.words[4] &&

@@ -1,6 +1,6 @@
 /*
- * Digribbon: Lua's string.packsize, string.pack and string.unpack over lent memory, with continued writing and trays of
- * records; and validity dates as day numbers.
+ * Digribbon: Lua's string.packsize, string.pack and string.unpack over lent memory, with continued writing, trays of
+ * records and record lengths before the texts are known; and validity dates as day numbers.
  *
  * The archive is for x86-64 Linux. Link it, and behind it the math library, which the remainder of a float under T
  * needs:
@@ -50,8 +50,8 @@
  * The version of header and archive, as text and as a number for #if: 10,000, 100 and 1 times its three numbers. The
  * last of these rises where something is added, the middle one where an answer changes.
  */
-#define DIGRIBBON_VERSION "0.2.0"
-#define DIGRIBBON_VERSION_NUMBER 200
+#define DIGRIBBON_VERSION "0.2.1"
+#define DIGRIBBON_VERSION_NUMBER 201
 
 #if SIZE_MAX < UINT64_MAX
 #error "Digribbon is for hosts with a size_t of 8 bytes."
@@ -59,8 +59,8 @@
 
 /*
  * Every refusal: its number, its name, who causes it, what it says. The first failing check decides; 21 comes first of
- * all and 22 last of all; in a tray 23 comes first, and 21 in its record's turn; of days and dates the order is 26, 24,
- * 25. For code about each of them, give a macro of four arguments:
+ * all and 22 last of all; in a tray 23 comes first, and 21 in its record's turn; of pairs of text lengths the order is
+ * 11, 27, 15, 9, and of days and dates 26, 24, 25. For code about each of them, give a macro of four arguments:
  *
  *     #define SENTENCE(number, name, cause, sentence) case name: return sentence;
  *
@@ -81,7 +81,7 @@
     refusal(8, DIGRIBBON_MISSING_NUMERAL, "profile author", "c has no numeral.") \
     refusal(9, DIGRIBBON_LENGTH_TOO_LARGE, "profile author", "The length, or the list bound's sum, is above 2^63-1.") \
     refusal(10, DIGRIBBON_NO_FIXED_SIZE, "profile author", "z or s has no fixed size, so the format cannot be measured.") \
-    refusal(11, DIGRIBBON_NO_VALUE_LEFT, "supplier of values", "No value is left.") \
+    refusal(11, DIGRIBBON_NO_VALUE_LEFT, "supplier of values", "No value is left, or no pair of text lengths.") \
     refusal(12, DIGRIBBON_WRONG_KIND, "supplier of values", "A value has the wrong kind.") \
     refusal(13, DIGRIBBON_OUT_OF_RANGE, "supplier of values", "An integer is out of its option's range.") \
     refusal(14, DIGRIBBON_ZERO_IN_TEXT, "supplier of values", "A text for z contains a zero.") \
@@ -91,12 +91,13 @@
     refusal(18, DIGRIBBON_INTEGER_TOO_WIDE, "card data", "An integer does not fit 64 bits.") \
     refusal(19, DIGRIBBON_MISSING_ZERO, "card data", "A text of z has no zero at its end.") \
     refusal(20, DIGRIBBON_TEXT_ABOVE_65535, "card data", "A text is longer than 65,535 bytes.") \
-    refusal(21, DIGRIBBON_MALFORMED, "host program", "The value list is malformed, the data or the state's length is above 2^63-1, or the state's limit is no power of two of 1 to 16.") \
+    refusal(21, DIGRIBBON_MALFORMED, "host program", "The value list is malformed, a pair of text lengths is not whole, the data or the state's length is above 2^63-1, or the state's limit is no power of two of 1 to 16.") \
     refusal(22, DIGRIBBON_RESULT_TOO_LONG, "host program", "The result is longer than the lent buffer.") \
     refusal(23, DIGRIBBON_DAMAGED_RUN, "host program", "The lengths of a run's lists don't end at its last byte.") \
     refusal(24, DIGRIBBON_NO_SUCH_DATE, "supplier of values", "There is no such date, or its year is before 2000.") \
     refusal(25, DIGRIBBON_DAY_TOO_LARGE, "supplier of values", "A day number is above 65,535.") \
-    refusal(26, DIGRIBBON_MONTHS_OUTSIDE, "supplier of values", "The months are outside 1 to 12.")
+    refusal(26, DIGRIBBON_MONTHS_OUTSIDE, "supplier of values", "The months are outside 1 to 12.") \
+    refusal(27, DIGRIBBON_LEAST_ABOVE_GREATEST, "supplier of values", "A least text length is above its greatest.")
 
 /* The numbers by name: DIGRIBBON_UNKNOWN_OPTION is 1, and so on. */
 #define DIGRIBBON_NUMBER(number, name, cause, sentence) name = number,
@@ -116,6 +117,32 @@ extern "C" {
  * Refusals: 1 to 10.
  */
 uint64_t digribbon_packsize(const uint8_t *format, size_t format_len, uint64_t answer[1]);
+
+/*
+ * Measuring before the texts are known: how long a record of the format is at least and at most, from the least and the
+ * greatest length of each text under z or s.
+ *
+ *     format     the options
+ *     pairs      for each z and s of the format, in order, the least and the greatest length of its text (2 bytes each,
+ *                big-endian); pairs that the format does not take are ignored, whatever they hold
+ *     answer[0]  the least length of a record
+ *     answer[1]  the greatest length of a record
+ *
+ * Every record whose texts have lengths within their pairs is as long as answer[0] says, as answer[1] says, or between;
+ * both are the length of such a record. So a buffer of answer[1] bytes suffices for each of them. Where the format has
+ * no z or s, both are the length that digribbon_packsize gives.
+ *
+ * A part of a pair, which is a pairs_len that is no multiple of 4, is refused first of all (21), also where the format
+ * takes no pair. Then each item in turn meets the checks of digribbon_packsize but for 10. At a z or s there are four
+ * checks behind those for 1 to 8, in this order: 11 where no pair is left; 27 where the least length is above the
+ * greatest; 15 where the greatest is more than the length in front of s can say, which happens with s1 from 256 on; and
+ * 9, which at every item is about the greatest length of the record so far.
+ *
+ * Refusals: 1 to 9, 11, 15, 21, 27.
+ */
+uint64_t digribbon_packsize_range(const uint8_t *format, size_t format_len,
+                                  const uint8_t *pairs, size_t pairs_len,
+                                  uint64_t answer[2]);
 
 /*
  * The list bound: a length that suffices for the list of any accepted reading by the format.
@@ -141,10 +168,11 @@ uint64_t digribbon_list_bound(const uint8_t *format, size_t format_len, uint64_t
  *     record     the result buffer
  *     answer[0]  the record's length
  *
- * digribbon_packsize says how long the buffer must be, but not for a format with z or s. This sum suffices for every
- * format: the list's length, 16 for each byte of the format, and the numerals behind its c. (A rule of thumb: it
- * follows item by item from what the options write, and held in every run, but it is not proved.) A buffer that is too
- * short gives 22 and nothing is changed, so a host may also begin with a shorter one.
+ * digribbon_packsize says how long the buffer must be, but not for a format with z or s; digribbon_packsize_range also
+ * says it for those, from the greatest lengths of their texts. This sum suffices for every format: the list's length,
+ * 16 for each byte of the format, and the numerals behind its c. (A rule of thumb: it follows item by item from what
+ * the options write, and held in every run, but it is not proved.) A buffer that is too short gives 22 and nothing is
+ * changed, so a host may also begin with a shorter one.
  *
  * Refusals: 1 to 9, 11 to 15, 21, 22.
  */

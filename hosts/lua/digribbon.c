@@ -1,6 +1,6 @@
 /*
- * The module "digribbon" for Lua 5.4 and later: pack, pack_tray, packsize, unpack, and a writer for continued writing;
- * day_number, date and last_day.
+ * The module "digribbon" for Lua 5.4 and later: pack, pack_tray, packsize, packsize_range, unpack, and a writer for
+ * continued writing; day_number, date and last_day.
  *
  * Memory is the C stack's or a block of Lua's own, so an error that is raised here loses none. Whatever asks Lua for
  * memory can run finalizers, and so any code, that of the module included.
@@ -367,7 +367,7 @@ static void push_bytes(lua_State *L, const Part *part)
 /* ---- trays */
 
 enum { TRAY_FORMAT = 1, LISTS, KEY }; /* on pack_tray's stack: the format, the lists, the text "n" */
-enum { LENGTH = 2 };                  /* bytes of the length before a list */
+enum { LENGTH = 2 };                  /* bytes of the length before a list, and of a text length */
 
 /* A format, and the lists as a run. */
 typedef struct {
@@ -506,6 +506,58 @@ static int refuse_tray(lua_State *L, const Tray *tray, uint64_t number, uint64_t
     return refuse(L, "pack_tray", number, about);
 }
 
+/* ---- text lengths */
+
+enum { RANGE_FORMAT = 1, LENGTHS }; /* packsize_range's arguments: the format, the pairs of text lengths */
+enum { PAIR = 4 };                  /* bytes of a pair */
+
+/* Puts a text length of the pair at the stack's top: its first is the least, its second the greatest. */
+static void put_text_length(lua_State *L, size_t pair, int place, uint8_t at[LENGTH])
+{
+    int is_integer;
+    lua_Integer length;
+    lua_rawgeti(L, -1, place);
+    length = lua_tointegerx(L, -1, &is_integer);
+    if (!is_integer || length < 0 || length > LONGEST)
+        luaL_argerror(L, LENGTHS, lua_pushfstring(L, "pair %I: its %s text length is no integer of 0 to 65,535",
+                                                  (lua_Integer)pair, place == 1 ? "least" : "greatest"));
+    at[0] = (uint8_t)(length / 256);
+    at[1] = (uint8_t)(length % 256);
+    lua_pop(L, 1);
+}
+
+static void put_pair(lua_State *L, size_t pair, uint8_t at[PAIR])
+{
+    if (lua_rawgeti(L, LENGTHS, (lua_Integer)pair) != LUA_TTABLE)
+        luaL_argerror(L, LENGTHS, lua_pushfstring(L, "pair %I: table expected, got %s", (lua_Integer)pair,
+                                                  luaL_typename(L, -1)));
+    put_text_length(L, pair, 1, at);
+    put_text_length(L, pair, 2, at + LENGTH);
+    lua_pop(L, 1);
+}
+
+/* Makes the pairs. To get memory for them can run a finalizer, which may change the table, so it is measured again. */
+static Slice make_pairs(lua_State *L, uint8_t small[SMALL])
+{
+    size_t room = SMALL, length;
+    uint8_t *start = small;
+    while ((length = PAIR * lua_rawlen(L, LENGTHS)) > room) {
+        lua_settop(L, LENGTHS);
+        room = length;
+        start = memory(L, room, small);
+    }
+    for (size_t pair = 1; pair <= length / PAIR; pair++)
+        put_pair(L, pair, start + (pair - 1) * PAIR);
+    return (Slice){start, length};
+}
+
+/* Whether a refusal of packsize_range is about a pair. */
+static bool is_about_pair(uint64_t number)
+{
+    return number == DIGRIBBON_NO_VALUE_LEFT || number == DIGRIBBON_TEXT_DOES_NOT_FIT ||
+           number == DIGRIBBON_LEAST_ABOVE_GREATEST;
+}
+
 /* ---- the module's functions */
 
 /* pack(fmt, v1, v2, ...): the record */
@@ -554,6 +606,23 @@ static int packsize(lua_State *L)
         return refuse(L, "packsize", number, (About){1, 0, 0});
     lua_pushinteger(L, (lua_Integer)size);
     return 1;
+}
+
+/* packsize_range(fmt, {{least, greatest}, ...}): the least and the greatest length of a record */
+static int packsize_range(lua_State *L)
+{
+    Slice format = check_text(L, RANGE_FORMAT), pairs;
+    uint8_t small[SMALL];
+    uint64_t answer[2], number;
+    luaL_checktype(L, LENGTHS, LUA_TTABLE);
+    lua_settop(L, LENGTHS);
+    pairs = make_pairs(L, small);
+    number = digribbon_packsize_range(format.start, format.length, pairs.start, pairs.length, answer);
+    if (number != 0)
+        return refuse(L, "packsize_range", number, (About){is_about_pair(number) ? LENGTHS : RANGE_FORMAT, 0, 0});
+    lua_pushinteger(L, (lua_Integer)answer[0]);
+    lua_pushinteger(L, (lua_Integer)answer[1]);
+    return 2;
 }
 
 /* How long a list of a reading is at most: a value's option is a byte of the format, and the texts lie apart. */
@@ -711,9 +780,16 @@ static int last_day(lua_State *L)
 }
 
 static const luaL_Reg functions[] = {
-    {"pack", pack},     {"pack_tray", pack_tray}, {"packsize", packsize},
-    {"unpack", unpack}, {"writer", writer},       {"day_number", day_number},
-    {"date", date},     {"last_day", last_day},   {NULL, NULL}};
+    {"pack", pack},
+    {"pack_tray", pack_tray},
+    {"packsize", packsize},
+    {"packsize_range", packsize_range},
+    {"unpack", unpack},
+    {"writer", writer},
+    {"day_number", day_number},
+    {"date", date},
+    {"last_day", last_day},
+    {NULL, NULL}};
 
 static const luaL_Reg writer_methods[] = {{"pack", writer_pack}, {"state", writer_state}, {NULL, NULL}};
 

@@ -1,7 +1,8 @@
 -- Tests of the module, and profiles as users write them. The last line says how many tests passed.
 local digribbon = require "digribbon"
 local testing = require "testing"
-local pack, pack_tray, packsize, unpack = digribbon.pack, digribbon.pack_tray, digribbon.packsize, digribbon.unpack
+local pack, pack_tray, unpack = digribbon.pack, digribbon.pack_tray, digribbon.unpack
+local packsize, packsize_range = digribbon.packsize, digribbon.packsize_range
 local day_number, date, last_day = digribbon.day_number, digribbon.date, digribbon.last_day
 
 local passed = 0
@@ -63,6 +64,24 @@ test("packsize", function()
     same({ 16 }, packsize("<!8bn"))
     same({ 3 }, packsize("!2i3"))
     same({ math.maxinteger }, packsize("c9223372036854775807"))
+end)
+
+test("packsize_range", function()
+    same({ 1, 21 }, packsize_range("z", { { 0, 20 } }))
+    same({ 1, 65536 }, packsize_range("z", { { 0, 65535 } }))
+    same({ 2, 257 }, packsize_range("z", { { 1, 256 } }))
+    same({ 1, 256 }, packsize_range("s1", { { 0, 255 } }))
+    same({ 8, 9 }, packsize_range("<!4 b s4", { { 0, 1 } }))
+    same({ 8, 8 }, packsize_range("!4 z i", { { 0, 3 } }))
+    same({ 8, 12 }, packsize_range("!4 z i", { { 0, 4 } }))
+    same({ 13, 24 }, packsize_range("zs1", { { 1, 2 }, { 10, 20 } }))
+    same({ 2, 513 }, packsize_range("zs1", { { 0, 256 }, { 0, 255 } }))
+    same({ 4, 7 }, packsize_range("!2 s2 s2", { { 0, 1 }, { 0, 1 } }))
+    same({ 16, 16 }, packsize_range("<!8bn", {}))
+    same({ 1, 1 }, packsize_range("b", { { 5, 1 } }))
+    same({ math.maxinteger, math.maxinteger }, packsize_range("c9223372036854775806z", { { 0, 0 } }))
+    same({ 3, 23 }, packsize_range("zx", { { 1.0, "21" } }, "ignored"))
+    same({ 2, 3 }, packsize_range("zx", { { 0, 1, 2, n = 1 }, name = {} }))
 end)
 
 test("unpack", function()
@@ -129,7 +148,7 @@ end
 
 test("the examples of docs/FORMAT.md that stand between fences", function()
     local page <close> = assert(io.open("../../docs/FORMAT.md"))
-    local counts = { pack_tray = 0, day_number = 0, date = 0, last_day = 0 }
+    local counts = { packsize_range = 0, pack_tray = 0, day_number = 0, date = 0, last_day = 0 }
     for line in page:lines() do
         local call, name, expected = line:match("^(([%a_]+)%(.*%)) +%-%-> (.*)$")
         if call then
@@ -138,7 +157,8 @@ test("the examples of docs/FORMAT.md that stand between fences", function()
             counts[name] = counts[name] + 1
         end
     end
-    same({ 5, 11, 5, 11 }, counts.pack_tray, counts.day_number, counts.date, counts.last_day)
+    same({ 17, 5 }, counts.packsize_range, counts.pack_tray)
+    same({ 11, 5, 11 }, counts.day_number, counts.date, counts.last_day)
 end)
 
 test("pack_tray: the values of a table go by n, else by its length", function()
@@ -265,6 +285,28 @@ test("every refusal of formats, values and data", function()
     refused(21, digribbon.writer, "<", 1, -1)
 end)
 
+test("every refusal of packsize_range, in the order of its checks", function()
+    local formats = { "q", "c18446744073709551616", "s17", "!17", "!3", "!4s3", "Xz", "c", "c9223372036854775807bq" }
+    for number, format in ipairs(formats) do
+        refused(number, packsize_range, format, {})
+        refused(number, packsize_range, format, { { 0, 1 } })
+        refused(number, packsize_range, format, { { 3, 2 } })
+    end
+    refused(11, packsize_range, "z", {})
+    refused(11, packsize_range, "zq", {})
+    refused(11, packsize_range, "zz", { { 0, 1 } })
+    refused(11, packsize_range, "c9223372036854775807z", {})
+    refused(27, packsize_range, "z", { { 3, 2 } })
+    refused(27, packsize_range, "zz", { { 256, 255 } })
+    refused(27, packsize_range, "s1", { { 257, 256 } })
+    refused(27, packsize_range, "c9223372036854775807z", { { 1, 0 } })
+    refused(15, packsize_range, "s1", { { 0, 256 } })
+    refused(15, packsize_range, "zs1", { { 0, 255 }, { 0, 256 } })
+    refused(15, packsize_range, "c9223372036854775807s1", { { 0, 256 } })
+    refused(9, packsize_range, "c9223372036854775806z", { { 0, 1 } })
+    refused(1, packsize_range, "zq", { { 0, 0 } })
+end)
+
 test("a refusal says number, sentence, cause, value and place", function()
     local refusal = refused(13, function() return (pack("<i2 i1", 7, 200)) end)
     assert(refusal.sentence == "An integer is out of its option's range.")
@@ -278,6 +320,10 @@ test("a refusal says number, sentence, cause, value and place", function()
     refusal = refused(26, last_day, 0, 0)
     assert(refusal.cause == "supplier of values" and refusal.value == nil and refusal.record == nil)
     assert(tostring(refusal) == "bad argument #2 to 'last_day' (refusal 26: The months are outside 1 to 12.)")
+    refusal = refused(27, packsize_range, "z", { { 3, 2 } })
+    assert(refusal.cause == "supplier of values" and refusal.value == nil and refusal.record == nil)
+    assert(tostring(refusal) ==
+        "bad argument #2 to 'packsize_range' (refusal 27: A least text length is above its greatest.)")
 end)
 
 test("a refusal names its argument", function()
@@ -286,6 +332,11 @@ test("a refusal names its argument", function()
         assert(not ok and tostring(refusal):find(("bad argument #%d to '%s'"):format(argument, name), 1, true), refusal)
     end
     about(1, "packsize", packsize, "z")
+    about(1, "packsize_range", packsize_range, "!4s3", {})
+    about(1, "packsize_range", packsize_range, "c9223372036854775807z", { { 0, 0 } })
+    about(2, "packsize_range", packsize_range, "z", {})
+    about(2, "packsize_range", packsize_range, "s1", { { 0, 256 } })
+    about(2, "packsize_range", packsize_range, "z", { { 3, 2 } })
     about(1, "pack", pack, "bq", 1)
     about(2, "pack", pack, "b")
     about(4, "pack", pack, "bzb", 1, "A")
@@ -378,6 +429,27 @@ test("pack_tray: a list takes at most 65,535 bytes", function()
         "i1 ", { { 200 }, longest })
 end)
 
+test("packsize_range: errors that are no refusals", function()
+    local function wrong(message, ...)
+        failed("bad argument #2 to 'digribbon.packsize_range' (" .. message .. ")", packsize_range, "z", ...)
+    end
+    failed("bad argument #1 to 'digribbon.packsize_range' (string expected", packsize_range)
+    wrong("table expected, got no value")
+    wrong("table expected, got number", 20)
+    wrong("pair 1: table expected, got number", { 0, 20 })
+    wrong("pair 2: table expected, got boolean", { { 0, 20 }, false })
+    wrong("pair 1: table expected, got nil", setmetatable({ nil, {} }, { __len = error }))
+    for _, length in ipairs { -1, 65536, math.mininteger, math.maxinteger, 1.5, 0 / 0, "many", {}, true } do
+        wrong("pair 1: its least text length is no integer of 0 to 65,535", { { length, 20 } })
+        wrong("pair 2: its greatest text length is no integer of 0 to 65,535", { { 0, 20 }, { 0, length } })
+    end
+    wrong("pair 1: its least text length is no integer of 0 to 65,535", { {} })
+    wrong("pair 1: its greatest text length is no integer of 0 to 65,535", { { 0 } })
+    local proxy = setmetatable({}, { __index = { 1, 2 }, __len = function() return 2 end })
+    wrong("pair 1: its least text length is no integer of 0 to 65,535", { proxy })
+    refused(11, packsize_range, "z", proxy)
+end)
+
 test("a refusal names its value among many", function()
     local values = {}
     for i = 1, 200 do values[i] = i end
@@ -457,6 +529,47 @@ test("pack_tray: a finalizer may change the tables", function()
     assert(runs > 100 and kinds > 0, ("%d runs, %d refusals"):format(runs, kinds))
 end)
 
+test("packsize_range: a finalizer may change the tables", function()
+    local lengths, runs, calling, over, grown, wrong = {}, 0, false, false, 0, 0
+    local format, pair = ("z"):rep(400), { 0, 1 }
+    local function change()
+        runs = runs + 1
+        for i = #lengths, runs % 3 == 0 and 200 or #lengths + 1, -1 do lengths[i] = nil end
+        for i = #lengths + 1, runs % 3 == 1 and 500 or 0 do lengths[i] = pair end
+        if runs % 5 == 0 then lengths[2] = runs end
+    end
+    local function arm()
+        setmetatable({}, { __gc = function()
+            if over then return end
+            if calling then change() end
+            arm()
+        end })
+    end
+    local pause, multiplier = collectgarbage("setpause", 0), collectgarbage("setstepmul", 1000)
+    collectgarbage() -- so that the pause counts from now on
+    arm()
+    for _ = 1, 1000 do
+        lengths = {}
+        for i = 1, 300 do lengths[i] = pair end
+        calling = true
+        local ok, least, greatest = pcall(packsize_range, format, lengths)
+        calling = false
+        if ok then
+            grown = grown + 1
+            same({ 400, 800 }, least, greatest)
+        elseif type(least) == "string" then
+            wrong = wrong + 1
+            assert(least:find("(pair 2: table expected, got number)", 1, true), least)
+        else
+            assert(least.number == 11, least)
+        end
+    end
+    over = true
+    collectgarbage("setpause", pause)
+    collectgarbage("setstepmul", multiplier)
+    assert(runs > 100 and grown > 10 and wrong > 10, ("%d runs, %d grown, %d wrong"):format(runs, grown, wrong))
+end)
+
 test("what is taken for a text or a number", function()
     same({ "\1" }, pack("b", 1.0))
     refused(12, pack, "b", "1")
@@ -495,7 +608,7 @@ test("long records and lists", function()
 end)
 
 test("too many results end as in Lua's own function", function()
-    for _, count in ipairs { 999900, 999950, 999990, 1 << 21 } do
+    for _, count in ipairs { 999900, 999940, 999990, 1 << 21 } do
         local format, data = ("b"):rep(count), ("\1"):rep(count)
         local expected, first = pcall(string.unpack, format, data)
         local ok, given = pcall(unpack, format, data)
@@ -548,6 +661,18 @@ test("pack_tray: memory goes by what is needed, and a lack of it is Lua's error"
         assert(ok or tray == "not enough memory", tray)
     until ok
     assert(tray == expected and tries >= 3, tries) -- the run, the tray by two sums, the bytes as a string
+end)
+
+test("packsize_range: many pairs, and a lack of memory", function()
+    local lengths, few = {}, {}
+    for i = 1, 300 do lengths[i] = { i % 2, i } end
+    for count = 250, 300 do -- the least sum up to half of them, the greatest to all numbers up to their count
+        same({ count + (count + 1) // 2, count + count * (count + 1) // 2 }, packsize_range(("z"):rep(count), lengths))
+    end
+    for i = 1, 256 do few[i] = lengths[i] end
+    same({ true, 2, 2 }, limited(1000, packsize_range, "z", few))
+    same({ true, 2, 2 }, limited(2000, packsize_range, "z", lengths))
+    same({ false, "not enough memory" }, limited(1000, packsize_range, "z", lengths))
 end)
 
 test("a lack of memory leaves the writer as it was", function()
@@ -765,6 +890,19 @@ test("profile: a name that arrives late", function()
         outer:commit()
     end
     same({ 258, 7, "ANNA", 8796, 13 }, unpack("<!4 I2 B z I4", card.files.pass))
+end)
+
+test("profile: a file for a name that arrives late", function()
+    local pass, file = "<!4 I2 B z I4", nil
+    local least, greatest = packsize_range(pass, { { 2, 20 } })
+    same({ 12, 28 }, least, greatest)
+    file = ("\0"):rep(greatest)
+    for length = 2, 20 do
+        local name = ("A"):rep(length)
+        local record = pack(pass, 258, 7, name, 8796)
+        assert(#record >= least and #record <= #file)
+        same({ 258, 7, name, 8796, #record + 1 }, unpack(pass, record .. file:sub(#record + 1)))
+    end
 end)
 
 test("profile: read what lies on a card, record by record", function()

@@ -10,6 +10,13 @@ pub(crate) type Room = [MaybeUninit<u8>];
 // As in ../include/digribbon.h.
 unsafe extern "C" {
     fn digribbon_packsize(format: *const u8, format_len: usize, answer: &mut [u64; 1]) -> u64;
+    fn digribbon_packsize_range(
+        format: *const u8,
+        format_len: usize,
+        pairs: *const u8,
+        pairs_len: usize,
+        answer: &mut [u64; 2],
+    ) -> u64;
     fn digribbon_list_bound(format: *const u8, format_len: usize, data_length: u64, answer: &mut [u64; 1]) -> u64;
     fn digribbon_pack_continued(
         order: u64,
@@ -54,6 +61,14 @@ unsafe extern "C" {
 
 pub(crate) fn packsize(format: &[u8]) -> Result<u64, Refusal> {
     answered(|answer| unsafe { digribbon_packsize(format.as_ptr(), format.len(), answer) }).map(|[size]| size)
+}
+
+/// The least and the greatest length of a record, from pairs of text lengths, each length in two bytes, big-endian.
+pub(crate) fn packsize_range(format: &[u8], pairs: &[[u8; 4]]) -> Result<[u64; 2], Refusal> {
+    let pairs = pairs.as_flattened();
+    answered(|answer| unsafe {
+        digribbon_packsize_range(format.as_ptr(), format.len(), pairs.as_ptr(), pairs.len(), answer)
+    })
 }
 
 pub(crate) fn list_bound(format: &[u8], data_length: u64) -> Result<u64, Refusal> {

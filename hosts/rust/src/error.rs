@@ -79,7 +79,7 @@ refusals! {
     8 MissingNumeral Author "c has no numeral."
     9 LengthTooLarge Author "The length, or the list bound's sum, is above 2^63-1."
     10 NoFixedSize Author "z or s has no fixed size, so the format cannot be measured."
-    11 NoValueLeft Supplier "No value is left."
+    11 NoValueLeft Supplier "No value is left, or no pair of text lengths."
     12 WrongKind Supplier "A value has the wrong kind."
     13 OutOfRange Supplier "An integer is out of its option's range."
     14 ZeroInText Supplier "A text for z contains a zero."
@@ -89,12 +89,13 @@ refusals! {
     18 IntegerTooWide CardData "An integer does not fit 64 bits."
     19 MissingZero CardData "A text of z has no zero at its end."
     20 TextAbove65535 CardData "A text is longer than 65,535 bytes."
-    21 Malformed Host "The value list is malformed, the data or the state's length is above 2^63-1, or the state's limit is no power of two of 1 to 16."
+    21 Malformed Host "The value list is malformed, a pair of text lengths is not whole, the data or the state's length is above 2^63-1, or the state's limit is no power of two of 1 to 16."
     22 ResultTooLong Host "The result is longer than the lent buffer."
     23 DamagedRun Host "The lengths of a run's lists don't end at its last byte."
     24 NoSuchDate Supplier "There is no such date, or its year is before 2000."
     25 DayTooLarge Supplier "A day number is above 65,535."
     26 MonthsOutside Supplier "The months are outside 1 to 12."
+    27 LeastAboveGreatest Supplier "A least text length is above its greatest."
 }
 
 impl Refusal {

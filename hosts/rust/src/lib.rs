@@ -43,8 +43,10 @@
 //! the process goes on. (A [`ValueList`] that is built grows as a `Vec` does, which ends the process there.) A short
 //! format can ask for a long record: `c2000000000` asks for two billion bytes. Where formats are not trusted, use
 //! [`pack_into`], [`pack_tray_into`] or [`Writer::write_into`] with a buffer as long as the longest record or tray that
-//! you accept. They allocate nothing, but for a copy of a tray's lists. [`packsize`] says the length of a record beforehand, but not where the format has `z` or `s`, whose length
-//! depends on the values: `c2000000000z` is [`Refusal::NoFixedSize`].
+//! you accept. They allocate nothing, but for a copy of a tray's lists. [`packsize`] says the length of a record
+//! beforehand, but not where the format has `z` or `s`, whose length depends on the values: `c2000000000z` is
+//! [`Refusal::NoFixedSize`]. For those [`packsize_range`] gives the least and the greatest length, from those of the
+//! texts.
 //!
 //! # Threads and the float environment
 //!
@@ -59,6 +61,7 @@ compile_error!("Digribbon is for hosts with pointers of 64 bits.");
 mod calls;
 mod dates;
 mod error;
+mod range;
 mod reading;
 mod room;
 mod tray;
@@ -72,6 +75,8 @@ pub use tray::TrayError;
 pub use values::{Iter, TextTooLong, Value, ValueList, Values};
 pub use writer::{Order, Part, State, Writer};
 
+use std::borrow::Borrow;
+use std::ops::RangeInclusive;
 use tray::Tray;
 use writing::Writing;
 
@@ -90,6 +95,48 @@ use writing::Writing;
 /// ```
 pub fn packsize(format: impl AsRef<[u8]>) -> Result<u64, Error> {
     Ok(calls::packsize(format.as_ref())?)
+}
+
+/// The least and the greatest length of a record of the format, before its texts are known: for each `z` and `s`, in
+/// order, there is a range of text lengths. Ranges that the format does not take are ignored.
+///
+/// Every record whose texts have lengths within their ranges has a length within the answer, and both ends of the
+/// answer are the length of such a record. Where the format has no `z` or `s`, both are what [`packsize`] gives.
+///
+/// The ranges come from any iterator, owned or lent. No more of them are taken than the format has bytes, so an endless
+/// one will do.
+///
+/// # Errors
+///
+/// The format's own: [`UnknownOption`](Refusal::UnknownOption) to [`LengthTooLarge`](Refusal::LengthTooLarge), which is
+/// about the greatest length. Those of a range: [`NoValueLeft`](Refusal::NoValueLeft) where none is left,
+/// [`LeastAboveGreatest`](Refusal::LeastAboveGreatest) where its start is above its end, and
+/// [`TextDoesNotFit`](Refusal::TextDoesNotFit) where its end is more than the length in front of an `s` can say. And
+/// [`ResultTooLong`](Refusal::ResultTooLong) where no memory for a copy of the ranges can be had.
+///
+/// ```
+/// use digribbon::{Refusal, Value, ValueList};
+/// use std::ops::RangeInclusive;
+///
+/// // A pass's number, its zone, the holder's name, a day. The name has 2 to 20 bytes.
+/// let pass = "<!4 I2 B z I4";
+/// let lengths = digribbon::packsize_range(pass, [2..=20])?;
+/// assert_eq!(lengths, 12..=28);
+///
+/// // The file is created, and later the name arrives.
+/// let mut file = vec![0; *lengths.end() as usize];
+/// let values = ValueList::from_values([Value::from(258), 7.into(), "ANNA LEE".into(), 8796.into()])?;
+/// assert_eq!(digribbon::pack_into(pass, &values, &mut file), Ok(16));
+///
+/// let reversed = RangeInclusive::new(20, 2);
+/// assert_eq!(digribbon::packsize_range(pass, [reversed]).unwrap_err(), Refusal::LeastAboveGreatest);
+/// # Ok::<(), Box<dyn std::error::Error>>(())
+/// ```
+pub fn packsize_range(
+    format: impl AsRef<[u8]>,
+    lengths: impl IntoIterator<Item: Borrow<RangeInclusive<u16>>>,
+) -> Result<RangeInclusive<u64>, Error> {
+    Ok(range::packsize_range(format.as_ref(), lengths)?)
 }
 
 /// The values as a record. Values that the format does not take are ignored.

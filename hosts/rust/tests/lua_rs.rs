@@ -39,7 +39,7 @@ fn refusals_of_pack_name_their_argument() {
     let mut lua = Original::default();
     let refused = [
         (&b"q"[..], vec![], "#1 to 'pack' (refusal 1: The format has a byte that is no option, or a byte above 127.)"),
-        (b"b", vec![], "#2 to 'pack' (refusal 11: No value is left.)"),
+        (b"b", vec![], "#2 to 'pack' (refusal 11: No value is left, or no pair of text lengths.)"),
         (b"<i1", vec![Value::Integer(200)], "#2 to 'pack' (refusal 13: An integer is out of its option's range.)"),
         (b"bz", vec![Value::Integer(1), Value::Other], "#3 to 'pack' (refusal 12: A value has the wrong kind.)"),
         (b"bz", vec![Value::Integer(1), text(&[1; 65_536])], "#3 to 'pack' (a text of 65536 bytes is above 65,535)"),

@@ -1,12 +1,12 @@
 //! How much memory the calls take, keep and can do without, by an allocator that counts and that refuses.
 
 use digribbon::{
-    Refusal, ValueList, Values, Writer, list_bound, pack, pack_into, pack_tray, pack_tray_into, packsize, unpack,
-    unpack_into,
+    Refusal, ValueList, Values, Writer, list_bound, pack, pack_into, pack_tray, pack_tray_into, packsize,
+    packsize_range, unpack, unpack_into,
 };
 use std::alloc::{GlobalAlloc, Layout, System};
 use std::cell::Cell;
-use std::ptr;
+use std::{iter, ptr};
 
 /// What a thread's blocks come to, and what it may have.
 #[derive(Clone, Copy)]
@@ -234,6 +234,22 @@ fn trays_need_memory_for_their_lists_too() {
         let (nothing, asked) = asked_by(|| pack_tray_into(format, &lists[..0], &mut chip));
         assert_eq!((nothing, asked), (Ok(0), 0), "{format}");
     }
+}
+
+/// There is a copy of the ranges, four bytes for each, which grows as vectors do. More than the format takes are not
+/// looked at.
+#[test]
+fn ranges_need_memory_for_a_copy() {
+    let (format, ranges) = ("z".repeat(1000), || iter::repeat(0..=20));
+    let (lengths, held) = held_by(|| packsize_range(&format, ranges()));
+    assert_eq!((lengths, held), (Ok(1000..=21_000), 0));
+    assert_eq!(with_memory_of(3 * 4000, || packsize_range(&format, ranges())), Ok(1000..=21_000));
+    for memory in [0, 1, 3999] {
+        assert!(with_memory_of(memory, || is_too_long(packsize_range(&format, ranges()))), "{memory}");
+    }
+    assert_eq!(with_memory_of(64, || packsize_range("b", ranges())), Ok(1..=1));
+    let (nothing, asked) = asked_by(|| packsize_range("<!8bn", ranges().take(0)));
+    assert_eq!((nothing, asked), (Ok(16..=16), 0));
 }
 
 /// Where a longer block can be had but not a copy of what is in it, the longer one is kept.

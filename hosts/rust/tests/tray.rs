@@ -76,7 +76,7 @@ fn errors_say_their_record_and_value() {
     assert_eq!(error.value_position(), Some(2));
     assert_eq!(error.to_string(), "refusal 13 at value 2 of record 2: An integer is out of its option's range.");
     let error = refused(11, Some(1), "bbb", &lists);
-    assert_eq!(error.to_string(), "refusal 11 at value 3 of record 1: No value is left.");
+    assert_eq!(error.to_string(), "refusal 11 at value 3 of record 1: No value is left, or no pair of text lengths.");
     let error = refused(5, Some(1), "b !3", &lists);
     assert_eq!(error.to_string(), "refusal 5 at record 1: The limit of ! is no power of two.");
     assert_eq!(TrayError::from(error).to_string(), error.to_string());
