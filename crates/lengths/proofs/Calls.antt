@@ -25,7 +25,7 @@ use Rattle.laws.proofs.Lists.{all-big, values-of}
 use Rattle.laws.proofs.ReadBack.{length-written}
 use Rattle.laws.proofs.Calls.{into-fits, into-accepted, start-sound, pack-run, packed, length-record}
 use Rattle.lengths.specs.Lengths.{Places, places, rangeOf, ranging, rangeBy, packsizeRange}
-use Rattle.lengths.specs.Claims.{Within, textLengths, TextsWithin, Reached}
+use Rattle.lengths.specs.Claims.{Within, Exactly, textLengths, TextsWithin, Reached}
 use Rattle.lengths.specs.declared.Range.{Range}
 use Rattle.lengths.proofs.Orders.{before-itself}
 use Rattle.lengths.proofs.Between.{between-run}
@@ -97,14 +97,17 @@ values-fine vs h = values-of vs (held vs h)
     held [] h = tt
     held (v ∷ vs) h = (h .0 .held, held vs (h .1))
 
--- a list of values with which writing comes to a state with the length n
-reach : (f p : List ℕ) (n : ℕ) (s : State) (vs : List Value) (o : Output) → All Fine vs → pack start f (listOf vs) ≡ accepted (place s [], o) → length (o .cells) ≡ n → Within p (textLengths (o .took)) → Reached f p n
+-- a list of values with which writing gives a record of n bytes
+reach : (pick : Range → ℕ) (f p : List ℕ) (n : ℕ) (s : State) (vs : List Value) (o : Output) → All Fine vs → pack start f (listOf vs) ≡ accepted (place s [], o) → length (o .cells) ≡ n
+    → Within p (textLengths (o .took)) × Exactly pick p (textLengths (o .took)) → Reached pick f p n
 unfolding stringPack
-reach f p n s vs o h e l w =
+reach pick f p n s vs o h e l t =
+    let texts = subst (λ (c : Checked (Place Value × Output)). Within p (textLengths (outputOf c .took)) × Exactly pick p (textLengths (outputOf c .took))) (sym e) t in
     record {
       list = listOf vs;
       bytes = list-bytes vs h;
-      within = subst (λ (c : Checked (Place Value × Output)). Within p (textLengths (outputOf c .took))) (sym e) w;
+      within = texts .0;
+      exact = texts .1;
       writes = λ b m. rw (e, into-fits b (length (o .cells)) (recordOf o) (omega (arith, length-record o, l, m))) (ap accepted l);
     }
 
@@ -116,11 +119,11 @@ side-length : (g : Bool) (r : Places) → side g r .length ≡ pick g (rangeOf r
 side-length true r = refl
 side-length false r = refl
 
-pub reached : (g : Bool) (f p : List ℕ) (q : Range) → All IsByte p → packsizeRange f p ≡ accepted q → Reached f p (pick g q)
+pub reached : (g : Bool) (f p : List ℕ) (q : Range) → All IsByte p → packsizeRange f p ≡ accepted q → Reached (pick g) f p (pick g q)
 reached g f p q b e =
     let r = ranged f p q e in
     let x = run-reaches g (places start start p) (ops options f) (r .last) (r .run) b (before-itself start) in
     let run = subst (λ (s : State). writing (place s (x .vs)) (ops options f) ≡ accepted (place (side g (r .last)) [], x .out)) (side-start g p) (x .writes) in
     let size = sym (length-written (place start (x .vs)) (ops options f) (place (side g (r .last)) []) (x .out) run) ∙ zero-add (length (x .out .cells)) in
     let n : length (x .out .cells) ≡ pick g q = sym size ∙ side-length g (r .last) ∙ ap (pick g) (r .is) in
-    reach f p (pick g q) (side g (r .last)) (x .vs) (x .out) (x .fine) (pack-run start f (listOf (x .vs)) (x .vs) start-sound (values-fine (x .vs) (x .fine)) ∙ run) n (x .within)
+    reach (pick g) f p (pick g q) (side g (r .last)) (x .vs) (x .out) (x .fine) (pack-run start f (listOf (x .vs)) (x .vs) start-sound (values-fine (x .vs) (x .fine)) ∙ run) n (x .texts)

@@ -28,6 +28,7 @@ use Rattle.laws.proofs.Calls.{packed}
 use Rattle.lengths.specs.Lengths.{range, extents, rangeOp, rangeBy, packsizeRange}
 use Rattle.lengths.specs.Claims.{textLengths, Within, TextsWithin, Reached}
 use Rattle.lengths.specs.Premises.{wide, Needed}
+use Rattle.lengths.specs.declared.Range.{Range}
 use Rattle.lengths.proofs.Calls.{wrote, between}
 
 -- ---- the texts that writing takes of a list of bytes
@@ -68,8 +69,8 @@ none-wide : (ns : List ℕ) → All Short ns → Within wide ns → Within wides
 none-wide [] h w = tt
 none-wide (n ∷ ns) h w = absurd (omega (arith, h .0, wide-pair n ns w))
 
-not-reached : Reached (bytes "z") wide 65537 → ⊥
-not-reached r =
+not-reached : (pick : Range → ℕ) → Reached pick (bytes "z") wide 65537 → ⊥
+not-reached pick r =
     let b : List ℕ = replicate 65537 0 in
     let e = r .writes b (omega (arith, length-replicate {A = ℕ} 65537 0)) in
     let x = wrote (bytes "z") (r .list) b 65537 e in

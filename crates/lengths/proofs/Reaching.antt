@@ -31,7 +31,7 @@ use Rattle.laws.proofs.Lists.{big-lt, all-take, all-drop, all-big}
 use Rattle.laws.proofs.Texts.{length-filled}
 use Rattle.laws.proofs.Steps.{Roomy, room-longer}
 use Rattle.lengths.specs.Lengths.{range, pairOf, Places, places, rangeOp, ranging}
-use Rattle.lengths.specs.Claims.{textLengths, Within}
+use Rattle.lengths.specs.Claims.{textLengths, Within, Exactly}
 use Rattle.lengths.specs.declared.Range.{Range}
 use Rattle.lengths.proofs.Orders.{Before, item-before}
 use Rattle.lengths.proofs.Steps.{Paired, Taken, number, chars, zero-ended, counted, extents-order, Onward, pad-went, put-went, step-before, by-items}
@@ -45,6 +45,10 @@ pick false q = q .least
 abbrev pub side : Bool → Places → State
 side true r = r .greatest
 side false r = r .least
+
+-- text lengths within the pairs p, each as picked
+abbrev Texts : Bool → List ℕ → List ℕ → Type 0
+Texts g p ns = Within p ns × Exactly (pick g) p ns
 
 -- the way of that length over an item
 record Way (g : Bool) (r : Places) (n : ℕ) (e : Range × List ℕ) (t : Places) : Type 0 where
@@ -77,7 +81,7 @@ record Chosen (g : Bool) (p : List ℕ) (f : Field) (e : Range × List ℕ) : Ty
   fine : Fine v
   written : (o : Bool) → (bs : List ℕ) × (encode o f v ≡ accepted bs) × (length bs ≡ pick g (e .0))
   first : (s : State) (z : ℕ) → Roomy s (z + pick g (e .0)) → (u : State) × (early s f ≡ accepted u)
-  within : (ns : List ℕ) → Within (e .1) ns → Within p (cond (isOpen f) (length (content v) ∷ ns) ns)
+  texts : (ns : List ℕ) → Texts g (e .1) ns → Texts g p (cond (isOpen f) (length (content v) ∷ ns) ns)
   rest : All IsByte (e .1)
 
 -- 0 suits every number option
@@ -109,7 +113,7 @@ choose-number g p k n b =
       fine = zero-fine;
       written = λ o. (coded o n (z .0), rw (z .1), length-coded o n (z .0) ∙ pick-same g n);
       first = λ s z r. (s, refl);
-      within = λ ns w. w;
+      texts = λ ns w. w;
       rest = b;
     }
 
@@ -122,7 +126,7 @@ choose-chars g p n b =
       written = λ o. (filled n [], rw (le-leb 0 n (omega arith)), length-filled n [] (omega arith) ∙ pick-same g n);
       first = λ s z r. let m = leb-true (s .length + (z + pick g (range n n))) (2 ^ 63 - 1) r in
           (further s n, room-longer s n (le-leb (s .length + n) (2 ^ 63 - 1) (omega (arith, m, pick-same g n))));
-      within = λ ns w. w;
+      texts = λ ns w. w;
       rest = b;
     }
 
@@ -146,7 +150,7 @@ record Picked (g : Bool) (p : List ℕ) (m : ℕ) : Type 0 where
   above : pairOf p .least ≤ m
   below : m ≤ pairOf p .greatest
   short : m ≤ 65535
-  within : (ns : List ℕ) → Within (drop 4 p) ns → Within p (length (ones m) ∷ ns)
+  texts : (ns : List ℕ) → Texts g (drop 4 p) ns → Texts g p (length (ones m) ∷ ns)
 
 picked : (g : Bool) (p : List ℕ) (q : Range) (holds : ℕ → Bool) → All IsByte p → Paired holds p q → Picked g p (pick g q)
 picked g p q holds b h =
@@ -156,7 +160,7 @@ picked g p q holds b h =
       above = m .0;
       below = m .1;
       short = omega (arith, two, m .1);
-      within = λ ns w. rw (length-ones (pick g q)) (h .there, m .0, m .1, w);
+      texts = λ ns w. ((rw (length-ones (pick g q)) (h .there, m .0, m .1, w .0)), (length-ones (pick g q) ∙ ap (pick g) (sym (h .is)), w .1));
     }
   where
     ends : (g : Bool) → (pairOf p .least ≤ pick g (pairOf p)) × (pick g (pairOf p) ≤ pairOf p .greatest)
@@ -176,7 +180,7 @@ choose-zero-ended g p q b h =
       fine = ones-fine m (x .short);
       written = λ o. (ones m ++ (0 ∷ []), rw (ones-no-zero m), length-append (ones m) (0 ∷ []) ∙ ap (λ (k : ℕ). k + 1) (length-ones m) ∙ more g);
       first = λ s z r. (s, refl);
-      within = x .within;
+      texts = x .texts;
       rest = all-drop 4 p b;
     }
   where
@@ -196,7 +200,7 @@ choose-counted g p n q b h =
       fine = ones-fine m (x .short);
       written = λ o. (c o ++ ones m, rw (lt-ltb (length (ones m)) (256 ^ n) fits), length-append (c o) (ones m) ∙ rw (length-coded o n (pos (length (ones m))), length-ones m) (more g));
       first = λ s z r. (s, refl);
-      within = x .within;
+      texts = x .texts;
       rest = all-drop 4 p b;
     }
   where
@@ -217,7 +221,7 @@ record Reaches (g : Bool) (r : Places) (o : Op) (t : Places) : Type 0 where
   fine : All Fine vs
   out : Output
   writes : (ws : List Value) → writeOp (place (side g r) (vs ++ ws)) o ≡ accepted (place (side g t) ws, out)
-  within : (ts : List (Field × Value)) → Within (t .left) (textLengths ts) → Within (r .left) (textLengths (out .took ++ ts))
+  texts : (ts : List (Field × Value)) → Texts g (t .left) (textLengths ts) → Texts g (r .left) (textLengths (out .took ++ ts))
   rest : All IsByte (t .left)
 
 pad-reaches : (g : Bool) (r : Places) (n k : ℕ) (t : Places) → Onward r n (range k k, r .left) t → All IsByte (r .left) → Before (r .least) (r .greatest) → Reaches g r (Op.Pad n k) t
@@ -232,7 +236,7 @@ pad-reaches g r n k t w b h =
       fine = tt;
       out = output (pads (x .zeros + k)) [] 1;
       writes = λ ws. rw (x .padded, room-longer (side g r) (x .zeros + k) room, is);
-      within = λ ts i. rw left i;
+      texts = λ ts i. rw left i;
       rest = subst (All IsByte) left b;
     }
 
@@ -252,7 +256,7 @@ put-reaches g r f e t y w b h =
       fine = (c .fine, tt);
       out = output (pads (x .zeros) ++ map byte (bs .0)) ((f, c .v) ∷ []) 1;
       writes = λ ws. rw (x .padded, c .first (side g r) (x .zeros) (x .room) .1, bs .1, room-longer (side g r) (x .zeros + length (bs .0)) room, is);
-      within = λ ts i. c .within (textLengths ts) (rw left i);
+      texts = λ ts i. c .texts (textLengths ts) (rw left i);
       rest = subst (All IsByte) left (c .rest);
     }
 
@@ -262,10 +266,10 @@ set-side false x r = refl
 
 item-reaches : (g : Bool) (r : Places) (o : Op) (t : Places) → rangeOp r o ≡ accepted t → All IsByte (r .left) → Before (r .least) (r .greatest) → Reaches g r o t
 unfolding rangeOp writeOp
-item-reaches g r Op.Blank t e b h = subst (Reaches g r Op.Blank) (same e) record { vs = []; fine = tt; out = nothing; writes = λ ws. refl; within = λ ts i. i; rest = b }
+item-reaches g r Op.Blank t e b h = subst (Reaches g r Op.Blank) (same e) record { vs = []; fine = tt; out = nothing; writes = λ ws. refl; texts = λ ts i. i; rest = b }
 item-reaches g r (Op.Set x) t e b h =
     subst (Reaches g r (Op.Set x)) (same e)
-    record { vs = []; fine = tt; out = output [] [] 1; writes = λ ws. ap (λ (s : State). accepted (place s ws, output [] [] 1)) (set-side g x r); within = λ ts i. i; rest = b }
+    record { vs = []; fine = tt; out = output [] [] 1; writes = λ ws. ap (λ (s : State). accepted (place s ws, output [] [] 1)) (set-side g x r); texts = λ ts i. i; rest = b }
 item-reaches g r (Op.Pad n k) t e b h = pad-reaches g r n k t (pad-went r n k t e) b h
 item-reaches g r (Op.Put f) t e b h = let p = put-went r f t e in put-reaches g r f (p .e) t (p .taken) (p .went) b h
 
@@ -275,13 +279,13 @@ pub record RunReaches (g : Bool) (r : Places) (is : List (Checked Op)) (u : Plac
   pub fine : All Fine vs
   pub out : Output
   pub writes : writing (place (side g r) vs) is ≡ accepted (place (side g u) [], out)
-  pub within : Within (r .left) (textLengths (out .took))
+  pub texts : Texts g (r .left) (textLengths (out .took))
 
 abbrev Reachable : Bool → Places → List (Checked Op) → Places → Type 0
 Reachable g r is u = All IsByte (r .left) → Before (r .least) (r .greatest) → RunReaches g r is u
 
 run-nothing : (g : Bool) (r : Places) → Reachable g r [] r
-run-nothing g r b h = record { vs = []; fine = tt; out = nothing; writes = refl; within = tt }
+run-nothing g r b h = record { vs = []; fine = tt; out = nothing; writes = refl; texts = (tt, tt) }
 
 run-item : (g : Bool) (r : Places) (o : Op) (t : Places) (is : List (Checked Op)) (u : Places) → rangeOp r o ≡ accepted t → Reachable g t is u → Reachable g r (accepted o ∷ is) u
 run-item g r o t is u e ih b h =
@@ -292,7 +296,7 @@ run-item g r o t is u e ih b h =
       fine = all-append Fine (x .vs) (y .vs) (x .fine) (y .fine);
       out = x .out ⊕ y .out;
       writes = on writeOp nothing _⊕_ (place (side g r) (x .vs ++ y .vs)) (place (side g t) (y .vs)) o is (x .out) (place (side g u) [], y .out) (x .writes (y .vs)) (y .writes);
-      within = x .within (y .out .took) (y .within);
+      texts = x .texts (y .out .took) (y .texts);
     }
 
 pub run-reaches : (g : Bool) (r : Places) (is : List (Checked Op)) (u : Places) → ranging r is ≡ accepted u → Reachable g r is u

@@ -30,22 +30,31 @@ abbrev pub Within : List ℕ → List ℕ → Type 0
 Within p [] = Unit {0}
 Within p (n ∷ ns) = (4 ≤ length p) × (pairOf p .least ≤ n) × (n ≤ pairOf p .greatest) × Within (drop 4 p) ns
 
--- the texts that writing f with the value list l takes lie within the pairs p
+-- each length is what is picked of its pair
+abbrev pub Exactly : (Range → ℕ) → List ℕ → List ℕ → Type 0
+Exactly pick p [] = Unit {0}
+Exactly pick p (n ∷ ns) = (n ≡ pick (pairOf p)) × Exactly pick (drop 4 p) ns
+
+-- of the texts that writing f with the value list l takes
 abbrev pub TextsWithin : List ℕ → List ℕ → List ℕ → Type 0
 TextsWithin f l p = Within p (textLengths (written f l .took))
 
--- a value list with such texts that writing accepts from the start state, with a record of n bytes, in every buffer that holds it
-pub record Reached (f p : List ℕ) (n : ℕ) : Type 0 where
+abbrev pub TextsExactly : (Range → ℕ) → List ℕ → List ℕ → List ℕ → Type 0
+TextsExactly pick f l p = Exactly pick p (textLengths (written f l .took))
+
+-- a value list with texts within the pairs, each as long as is picked of its pair, that writing accepts from the start state, with a record of n bytes, in every buffer that holds it
+pub record Reached (pick : Range → ℕ) (f p : List ℕ) (n : ℕ) : Type 0 where
   pub list : List ℕ
   pub bytes : All IsByte list
   pub within : TextsWithin f list p
+  pub exact : TextsExactly pick f list p
   pub writes : (b : List ℕ) → n ≤ length b → stringPack f list b .answer ≡ accepted n
 
 -- ---- the claim: for every format f and pairs p
 pub record Ranges : Type 0 where
-  -- "Both must be reached by some texts within the given lengths"
-  pub least : (f p : List ℕ) (r : Range) → All IsByte p → packsizeRange f p ≡ accepted r → Reached f p (r .least)
-  pub greatest : (f p : List ℕ) (r : Range) → All IsByte p → packsizeRange f p ≡ accepted r → Reached f p (r .greatest)
+  -- "Both must be reached by some texts within the given lengths": by the least texts, and by the greatest
+  pub least : (f p : List ℕ) (r : Range) → All IsByte p → packsizeRange f p ≡ accepted r → Reached (λ q. q .least) f p (r .least)
+  pub greatest : (f p : List ℕ) (r : Range) → All IsByte p → packsizeRange f p ≡ accepted r → Reached (λ q. q .greatest) f p (r .greatest)
   -- "every such text's record must lie between"
   pub between : (f p l b : List ℕ) (r : Range) (n : ℕ) → packsizeRange f p ≡ accepted r → stringPack f l b .answer ≡ accepted n → TextsWithin f l p
       → (r .least ≤ n) × (n ≤ r .greatest)

@@ -14,6 +14,7 @@ use Rattle.definition.specs.Profiles.{room}
 use Rattle.laws.specs.Claims.{hasOpen}
 use Rattle.lengths.specs.Lengths.{range, packsizeRange}
 use Rattle.lengths.specs.Claims.{Reached}
+use Rattle.lengths.specs.declared.Range.{Range}
 
 -- a pair of two lengths of 65,536, which no two bytes say
 abbrev pub wide : List ℕ
@@ -21,7 +22,7 @@ wide = 0 ∷ 65536 ∷ 0 ∷ 65536 ∷ []
 
 pub record Needed : Type 0 where
   -- of `least` and `greatest`, bytes: no value list of bytes has a text of 65,536
-  pub no-bytes : (packsizeRange (bytes "z") wide ≡ accepted (range 65537 65537)) × (Reached (bytes "z") wide 65537 → ⊥)
+  pub no-bytes : (packsizeRange (bytes "z") wide ≡ accepted (range 65537 65537)) × ((pick : Range → ℕ) → Reached pick (bytes "z") wide 65537 → ⊥)
   -- of `between`, texts within the pairs: "AB" has two bytes, and with its zero the record has three
   pub outside : (packsizeRange (bytes "z") (0 ∷ 0 ∷ 0 ∷ 1 ∷ []) ≡ accepted (range 1 2)) × (stringPack (bytes "z") (listOf (text (bytes "AB") ∷ [])) (room 3) .answer ≡ accepted 3)
   -- of `fixed`, whole pairs, and a format without z and s
