@@ -76,7 +76,7 @@ unfolding total
 total-lt [] h = lit< tt
 total-lt (b ∷ s) h = rw (pow-suc 256 (length s)) (omega (arith, total-lt s (h .1)))
 
-pub all-reverse : (s : List ℕ) → All IsByte s → All IsByte (reverse s)
+all-reverse : (s : List ℕ) → All IsByte s → All IsByte (reverse s)
 all-reverse [] h = tt
 all-reverse (b ∷ s) h = rw (reverse-cons b s) (all-append IsByte (reverse s) (b ∷ []) (all-reverse s (h .1)) (h .0, tt))
 

@@ -146,7 +146,7 @@ pub record Premises (r : Place Value) (o : Op) (a : Output) : Type 0 where
   pub held : All Held (r .left)
   pub integers : All (λ t. T (integerForJ (t .0) (t .1))) (a .took)
 
-pub set-placed : (x : Setting) (n : ℕ) (s : State) → set x (placed n s) ≡ placed n (set x s)
+set-placed : (x : Setting) (n : ℕ) (s : State) → set x (placed n s) ≡ placed n (set x s)
 set-placed (Setting.Order o) n s = refl
 set-placed (Setting.Limit m) n s = refl
 

@@ -28,7 +28,7 @@ use Rattle.lengths.specs.Lengths.{Places, places, rangeOf, ranging, rang
 use Rattle.lengths.specs.Claims.{Within, Exactly, textLengths, TextsWithin, Reached}
 use Rattle.lengths.specs.declared.Range.{Range}
 use Rattle.lengths.proofs.Orders.{before-itself}
-use Rattle.lengths.proofs.Between.{between-run}
+use Rattle.lengths.proofs.Between.{Lies, between-run}
 use Rattle.lengths.proofs.Reaching.{pick, side, Fine, run-reaches}
 
 -- what an accepted call went through
@@ -47,8 +47,6 @@ ranged f p q e =
 
 -- what an accepted writing put out
 pub record Wrote (f l : List ℕ) (n : ℕ) : Type 0 where
-  pub vs : List Value
-  pub read : values l ≡ accepted vs
   pub last : Place Value
   pub out : Output
   pub packs : pack start f l ≡ accepted (last, out)
@@ -62,7 +60,7 @@ wrote f l b n e =
     let p = packed start f l (q .val) (q .is) in
     let counted : length (q .val .1 .cells) ≡ n = ap (λ (x : ℕ × List ℕ). x .0) (same (q .rest)) in
     let long = length-written (place start (p .vs)) (ops options f) (q .val .0) (q .val .1) (p .run) in
-    record { vs = p .vs; read = p .list; last = q .val .0; out = q .val .1; packs = q .is; size = sym long ∙ zero-add (length (q .val .1 .cells)) ∙ counted }
+    record { last = q .val .0; out = q .val .1; packs = q .is; size = sym long ∙ zero-add (length (q .val .1 .cells)) ∙ counted }
 
 -- ---- "every such text's record must lie between"
 pub between : (f p l b : List ℕ) (r : Range) (n : ℕ) → packsizeRange f p ≡ accepted r → stringPack f l b .answer ≡ accepted n → TextsWithin f l p → (r .least ≤ n) × (n ≤ r .greatest)
@@ -71,9 +69,9 @@ between f p l b r n e w t =
     let x = wrote f l b n w in
     let y = packed start f l (x .last, x .out) (x .packs) in
     let texts : Within p (textLengths (x .out .took)) = subst (λ (c : Checked (Place Value × Output)). Within p (textLengths (outputOf c .took))) (x .packs) t in
-    let lies = between-run (place start (y .vs)) (ops options f) (x .last) (x .out) (y .run) (places start start p) (g .last) (g .run)
-    (record { least = before-itself start; greatest = before-itself start; within = texts }) in
-    subst (λ (q : Range). (q .least ≤ n) × (n ≤ q .greatest)) (g .is) (subst (λ (m : ℕ). (g .last .least .length ≤ m) × (m ≤ g .last .greatest .length)) (x .size) (lies .least .lengths, lies .greatest .lengths))
+    let starts : Lies (places start start p) start (textLengths (x .out .took)) = record { least = before-itself start; greatest = before-itself start; within = texts } in
+    let lies = between-run (place start (y .vs)) (ops options f) (x .last) (x .out) (y .run) (places start start p) (g .last) (g .run) starts in
+    rw (← g .is, ← x .size) (lies .least .lengths, lies .greatest .lengths)
 
 -- ---- "Both must be reached by some texts within the given lengths"
 
