@@ -43,8 +43,8 @@ BOXES = [
     ("definition", 20, 338, 146, 166, "laws", [
         "specs/: the claims,", "that measuring, writing", "and reading agree", "",
         "proofs/: their proofs,", "and laws that the", "code's proofs cite"]),
-    ("definition", 20, 524, 146, 122, "calendar", [
-        "specs/: dates, day", "numbers, last days,", "what is claimed", "", "proofs/: their proofs"]),
+    ("definition", 20, 524, 146, 122, "lengths, calendar", [
+        "specs/: record lengths;", "dates, last days; what", "is claimed of each", "", "proofs/: their proofs"]),
     ("proved", 186, 146, 130, 260, "format", [
         "hands out one item", "after the other, by", "a cursor by value"]),
     ("leaf", 198, 226, 106, 48, "options", ["the option table"]),
@@ -54,7 +54,7 @@ BOXES = [
     ("leaf", 186, 60, 80, 58, "word", ["for plan:", "12 and 13"]),
     ("leaf", 276, 60, 80, 58, "decode", ["for fetch:", "17 to 20"]),
     ("proved", 356, 326, 130, 68, "fetch", ["what reading takes", "for an item"]),
-    ("proved", 526, 146, 130, 68, "measure, bound", ["string_packsize,", "list_bound"]),
+    ("proved", 526, 146, 130, 78, "measure, range", ["string_packsize,", "packsize_range;", "bound: list_bound"]),
     ("proved", 526, 236, 130, 78, "write, tray", ["string_pack,", "pack_continued;", "pack_tray"]),
     ("proved", 526, 326, 130, 68, "read", ["string_unpack;", "read_pass"]),
     ("proved", 526, 416, 130, 68, "dates", ["day_number,", "date_of, last_day"]),
@@ -66,7 +66,7 @@ BOXES = [
     ("proved", 376, 60, 180, 58, "agreement", ["calls made in turn, by", "measure, write and read"]),
     ("proved", 696, 60, 110, 58, "line", ["the line printed"]),
     ("proved", 846, 60, 114, 58, "packsize", ["the program"]),
-    ("leaf", 186, 542, 118, 104, "align", ["the state, padding;", "for format,", "measure, plan,", "fetch, write, read"]),
+    ("leaf", 186, 542, 118, 104, "align", ["the state, padding;", "for format, measure,", "range, plan, fetch,", "write, read"]),
     ("leaf", 318, 542, 118, 104, "values, fields", ["the value list, and", "runs of them; for", "numbers, word, plan,", "write, tray, read"]),
     ("leaf", 450, 542, 118, 104, "numbers", ["a value as integer", "or as number;", "for word"]),
     ("leaf", 582, 542, 118, 104, "single", ["f64 to f32, and", "back; for word,", "numbers, decode"]),
