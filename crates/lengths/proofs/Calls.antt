@@ -25,11 +25,12 @@ use Rattle.laws.proofs.Lists.{all-big, values-of}
 use Rattle.laws.proofs.ReadBack.{length-written}
 use Rattle.laws.proofs.Calls.{into-fits, into-accepted, start-sound, pack-run, packed, length-record}
 use Rattle.lengths.specs.Lengths.{Places, places, rangeOf, ranging, rangeBy, packsizeRange}
-use Rattle.lengths.specs.Claims.{Within, Exactly, textLengths, TextsWithin, Reached}
+use Rattle.lengths.specs.Claims.{textLengths, leastOf, greatestOf, Between, Texts, Reached}
 use Rattle.lengths.specs.declared.Range.{Range}
 use Rattle.lengths.proofs.Orders.{before-itself}
-use Rattle.lengths.proofs.Between.{Lies, between-run}
-use Rattle.lengths.proofs.Reaching.{pick, side, Fine, run-reaches}
+use Rattle.lengths.proofs.Between.{Lies, run-lies}
+use Rattle.lengths.proofs.Steps.{pick, side}
+use Rattle.lengths.proofs.Reaching.{Fine, run-reaches}
 
 -- what an accepted call went through
 pub record Ranged (f p : List ℕ) (q : Range) : Type 0 where
@@ -62,16 +63,29 @@ wrote f l b n e =
     let long = length-written (place start (p .vs)) (ops options f) (q .val .0) (q .val .1) (p .run) in
     record { last = q .val .0; out = q .val .1; packs = q .is; size = sym long ∙ zero-add (length (q .val .1 .cells)) ∙ counted }
 
--- ---- "every such text's record must lie between"
-pub between : (f p l b : List ℕ) (r : Range) (n : ℕ) → packsizeRange f p ≡ accepted r → stringPack f l b .answer ≡ accepted n → TextsWithin f l p → (r .least ≤ n) × (n ≤ r .greatest)
-between f p l b r n e w t =
+side-start : (g : Bool) (p : List ℕ) → side g (places start start p) ≡ start
+side-start true p = refl
+side-start false p = refl
+
+side-length : (g : Bool) (r : Places) → side g r .length ≡ pick g (rangeOf r)
+side-length true r = refl
+side-length false r = refl
+
+-- ---- "every such text's record must lie between": where texts lie between two picked lengths, so does the record
+pub lies-between : (low high : Bool) (f p l b : List ℕ) (r : Range) (n : ℕ) → packsizeRange f p ≡ accepted r → stringPack f l b .answer ≡ accepted n → Texts (pick low) (pick high) f l p
+    → (pick low r ≤ n) × (n ≤ pick high r)
+lies-between low high f p l b r n e w t =
     let g = ranged f p r e in
     let x = wrote f l b n w in
     let y = packed start f l (x .last, x .out) (x .packs) in
-    let texts : Within p (textLengths (x .out .took)) = subst (λ (c : Checked (Place Value × Output)). Within p (textLengths (outputOf c .took))) (x .packs) t in
-    let starts : Lies (places start start p) start (textLengths (x .out .took)) = record { least = before-itself start; greatest = before-itself start; within = texts } in
-    let lies = between-run (place start (y .vs)) (ops options f) (x .last) (x .out) (y .run) (places start start p) (g .last) (g .run) starts in
-    rw (← g .is, ← x .size) (lies .least .lengths, lies .greatest .lengths)
+    let texts = subst (λ (c : Checked (Place Value × Output)). Between (pick low) (pick high) p (textLengths (outputOf c .took))) (x .packs) t in
+    let starts : Lies low high (places start start p) start (textLengths (x .out .took)) = record { above = rw (side-start low p) (before-itself start); below = rw (side-start high p) (before-itself start); texts = texts } in
+    let lies = run-lies low high (place start (y .vs)) (ops options f) (x .last) (x .out) (y .run) (places start start p) (g .last) (g .run) starts in
+    rw (← g .is, ← x .size, ← side-length low (g .last), ← side-length high (g .last)) (lies .above .lengths, lies .below .lengths)
+
+-- where every text has just the picked length, so has the record
+pub lies-at : (g : Bool) (f p l b : List ℕ) (r : Range) (n : ℕ) → packsizeRange f p ≡ accepted r → stringPack f l b .answer ≡ accepted n → Texts (pick g) (pick g) f l p → n ≡ pick g r
+lies-at g f p l b r n e w t = omega (arith, lies-between g g f p l b r n e w t)
 
 -- ---- "Both must be reached by some texts within the given lengths"
 
@@ -97,10 +111,11 @@ values-fine vs h = values-of vs (held vs h)
 
 -- a list of values with which writing gives a record of n bytes
 reach : (pick : Range → ℕ) (f p : List ℕ) (n : ℕ) (s : State) (vs : List Value) (o : Output) → All Fine vs → pack start f (listOf vs) ≡ accepted (place s [], o) → length (o .cells) ≡ n
-    → Within p (textLengths (o .took)) × Exactly pick p (textLengths (o .took)) → Reached pick f p n
+    → Between leastOf greatestOf p (textLengths (o .took)) × Between pick pick p (textLengths (o .took)) → Reached pick f p n
 unfolding stringPack
 reach pick f p n s vs o h e l t =
-    let texts = subst (λ (c : Checked (Place Value × Output)). Within p (textLengths (outputOf c .took)) × Exactly pick p (textLengths (outputOf c .took))) (sym e) t in
+    let both : Checked (Place Value × Output) → Type 0 = λ c. Between leastOf greatestOf p (textLengths (outputOf c .took)) × Between pick pick p (textLengths (outputOf c .took)) in
+    let texts = subst both (sym e) t in
     record {
       list = listOf vs;
       bytes = list-bytes vs h;
@@ -108,14 +123,6 @@ reach pick f p n s vs o h e l t =
       exact = texts .1;
       writes = λ b m. rw (e, into-fits b (length (o .cells)) (recordOf o) (omega (arith, length-record o, l, m))) (ap accepted l);
     }
-
-side-start : (g : Bool) (p : List ℕ) → side g (places start start p) ≡ start
-side-start true p = refl
-side-start false p = refl
-
-side-length : (g : Bool) (r : Places) → side g r .length ≡ pick g (rangeOf r)
-side-length true r = refl
-side-length false r = refl
 
 pub reached : (g : Bool) (f p : List ℕ) (q : Range) → All IsByte p → packsizeRange f p ≡ accepted q → Reached (pick g) f p (pick g q)
 reached g f p q b e =

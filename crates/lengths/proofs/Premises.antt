@@ -26,10 +26,10 @@ use Rattle.laws.proofs.Lists.{short, values-held}
 use Rattle.laws.proofs.Steps.{Step, blank, sets, pads-out, puts, step-of, held-step}
 use Rattle.laws.proofs.Calls.{packed}
 use Rattle.lengths.specs.Lengths.{range, extents, rangeOp, rangeBy, packsizeRange}
-use Rattle.lengths.specs.Claims.{textLengths, Within, TextsWithin, Reached}
+use Rattle.lengths.specs.Claims.{textLengths, leastOf, greatestOf, Between, Texts, Reached}
 use Rattle.lengths.specs.Premises.{wide, Needed}
 use Rattle.lengths.specs.declared.Range.{Range}
-use Rattle.lengths.proofs.Calls.{wrote, between}
+use Rattle.lengths.proofs.Calls.{wrote, lies-between}
 
 -- ---- the texts that writing takes of a list of bytes
 abbrev Short : ℕ → Type 0
@@ -60,12 +60,12 @@ widest-range : packsizeRange (bytes "z") widest ≡ accepted (range 1 65536)
 unfolding little total entryList options digits nextByte taken itemsPast value numeralOf opOf longer alignment padding extents rangeOp rangeBy packsizeRange
 widest-range = refl
 
-wide-pair : (n : ℕ) (ns : List ℕ) → Within wide (n ∷ ns) → 65536 ≤ n
+wide-pair : (n : ℕ) (ns : List ℕ) → Between leastOf greatestOf wide (n ∷ ns) → 65536 ≤ n
 unfolding total
 wide-pair n ns w = w .1
 
 -- texts that lie within the wide pair are none
-none-wide : (ns : List ℕ) → All Short ns → Within wide ns → Within widest ns
+none-wide : (ns : List ℕ) → All Short ns → Between leastOf greatestOf wide ns → Between leastOf greatestOf widest ns
 none-wide [] h w = tt
 none-wide (n ∷ ns) h w = absurd (omega (arith, h .0, wide-pair n ns w))
 
@@ -76,10 +76,10 @@ not-reached pick r =
     let x = wrote (bytes "z") (r .list) b 65537 e in
     let y = packed start (bytes "z") (r .list) (x .last, x .out) (x .packs) in
     let held = values-held (r .list) (y .vs) (r .bytes) (y .list) in
-    let texts : Within wide (textLengths (x .out .took)) = subst (λ (c : Checked (Place Value × Output)). Within wide (textLengths (outputOf c .took))) (x .packs) (r .within) in
+    let texts = subst (λ (c : Checked (Place Value × Output)). Between leastOf greatestOf wide (textLengths (outputOf c .took))) (x .packs) (r .within) in
     let within = none-wide (textLengths (x .out .took)) (short-texts (place start (y .vs)) (ops options (bytes "z")) (x .last) (x .out) (y .run) held) texts in
-    let inside : TextsWithin (bytes "z") (r .list) widest = subst (λ (c : Checked (Place Value × Output)). Within widest (textLengths (outputOf c .took))) (sym (x .packs)) within in
-    omega (arith, between (bytes "z") widest (r .list) b (range 1 65536) 65537 widest-range e inside .1)
+    let inside : Texts leastOf greatestOf (bytes "z") (r .list) widest = subst (λ (c : Checked (Place Value × Output)). Between leastOf greatestOf widest (textLengths (outputOf c .took))) (sym (x .packs)) within in
+    omega (arith, lies-between false true (bytes "z") widest (r .list) b (range 1 65536) 65537 widest-range e inside .1)
 
 pub needed : Needed
 unfolding little total signed laid listOf fieldOf valuesPast entryList options digits nextByte taken itemsPast value numeralOf opOf longer alignment padding
@@ -87,6 +87,7 @@ unfolding little total signed laid listOf fieldOf valuesPast entryList options d
 needed = record {
   no-bytes = (refl, not-reached);
   outside = (refl, refl);
+  neither = (refl, refl);
   part = (refl, refl);
   open-size = (refl, refl, refl);
   behind = (refl, refl);

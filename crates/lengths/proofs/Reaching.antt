@@ -13,7 +13,7 @@ use Rattle.definition.specs.Answers.{Checked, accepted}
 use Rattle.definition.specs.Bytes.{IsByte, coded}
 use Rattle.definition.specs.Values.{Value, integer, text, Held}
 use Rattle.definition.specs.Lists.{content}
-use Rattle.definition.specs.States.{set, further, natural, padding}
+use Rattle.definition.specs.States.{further, natural}
 use Rattle.definition.specs.Fields.{word, filled, hasZero, encode}
 use Rattle.definition.specs.Writing.{byte, pads, Output, output, nothing, _⊕_, place, early, writeField, writeOp, writing}
 use Rattle.definition.specs.declared.State.{State}
@@ -30,44 +30,25 @@ use Rattle.laws.proofs.Cells.{all-append}
 use Rattle.laws.proofs.Lists.{big-lt, all-take, all-drop, all-big}
 use Rattle.laws.proofs.Texts.{length-filled}
 use Rattle.laws.proofs.Steps.{Roomy, room-longer}
-use Rattle.lengths.specs.Lengths.{range, pairOf, Places, places, rangeOp, ranging}
-use Rattle.lengths.specs.Claims.{textLengths, Within, Exactly}
+use Rattle.lengths.specs.Lengths.{range, pairOf, Places, rangeOp, ranging}
+use Rattle.lengths.specs.Claims.{textLengths, leastOf, greatestOf, Between}
 use Rattle.lengths.specs.declared.Range.{Range}
 use Rattle.lengths.proofs.Orders.{Before, item-before}
-use Rattle.lengths.proofs.Steps.{Paired, Taken, number, chars, zero-ended, counted, extents-order, Onward, pad-went, put-went, step-before, by-items}
-
--- ---- one of the two lengths: the greatest (true) or the least
-
-abbrev pub pick : Bool → Range → ℕ
-pick true q = q .greatest
-pick false q = q .least
-
-abbrev pub side : Bool → Places → State
-side true r = r .greatest
-side false r = r .least
+use Rattle.lengths.proofs.Steps.{Paired, Taken, number, chars, zero-ended, counted, extents-order, Onward, pad-went, put-went, step-before, pick, pick-same, pick-zero, pick-length, side, set-side, way, by-items}
 
 -- text lengths within the pairs p, each as picked
-abbrev Texts : Bool → List ℕ → List ℕ → Type 0
-Texts g p ns = Within p ns × Exactly (pick g) p ns
+abbrev Picks : Bool → List ℕ → List ℕ → Type 0
+Picks g p ns = Between leastOf greatestOf p ns × Between (pick g) (pick g) p ns
 
--- the way of that length over an item
-record Way (g : Bool) (r : Places) (n : ℕ) (e : Range × List ℕ) (t : Places) : Type 0 where
-  zeros : ℕ
-  padded : padding (side g r) n ≡ accepted zeros
-  room : Roomy (side g r) (zeros + pick g (e .0))
-  is : further (side g r) (zeros + pick g (e .0)) ≡ side g t
-
-way : (g : Bool) (r : Places) (n : ℕ) (e : Range × List ℕ) (t : Places) → Onward r n e t → Before (r .least) (r .greatest) → e .0 .least ≤ e .0 .greatest → Way g r n e t
-way true r n e t w h l = record { zeros = w .b; padded = w .greatest-zeros; room = w .room; is = ap (λ (x : Places). x .greatest) (w .is) }
-way false r n e t w h l =
+-- that length is no longer than the greatest, which is tested
+way-room : (g : Bool) (r : Places) (n : ℕ) (e : Range × List ℕ) (t : Places) (w : Onward r n e t) → Before (r .least) (r .greatest) → e .0 .least ≤ e .0 .greatest
+    → Roomy (side g r) (way g r n e t w .zeros + pick g (e .0))
+unfolding way
+way-room true r n e t w h l = w .room
+way-room false r n e t w h l =
     let order = item-before (r .least) (r .greatest) n (w .a) (w .b) (e .0 .least) (e .0 .greatest) h (w .least-zeros) (w .greatest-zeros) l .lengths in
     let most = leb-true (r .greatest .length + (w .b + e .0 .greatest)) (2 ^ 63 - 1) (w .room) in
-    record {
-      zeros = w .a;
-      padded = w .least-zeros;
-      room = le-leb (r .least .length + (w .a + e .0 .least)) (2 ^ 63 - 1) (omega (arith, order, most));
-      is = ap (λ (x : Places). x .least) (w .is);
-    }
+    le-leb (r .least .length + (w .a + e .0 .least)) (2 ^ 63 - 1) (omega (arith, order, most))
 
 -- ---- a value for a field
 
@@ -81,7 +62,7 @@ record Chosen (g : Bool) (p : List ℕ) (f : Field) (e : Range × List ℕ) : Ty
   fine : Fine v
   written : (o : Bool) → (bs : List ℕ) × (encode o f v ≡ accepted bs) × (length bs ≡ pick g (e .0))
   first : (s : State) (z : ℕ) → Roomy s (z + pick g (e .0)) → (u : State) × (early s f ≡ accepted u)
-  texts : (ns : List ℕ) → Texts g (e .1) ns → Texts g p (cond (isOpen f) (length (content v) ∷ ns) ns)
+  texts : (ns : List ℕ) → Picks g (e .1) ns → Picks g p (cond (isOpen f) (length (content v) ∷ ns) ns)
   rest : All IsByte (e .1)
 
 -- 0 suits every number option
@@ -99,10 +80,6 @@ zero-word Double n = (_, refl)
 
 zero-fine : Fine (integer (pos 0))
 zero-fine = record { held = lit< tt; bytes = all-big 8 0 }
-
-pick-same : (g : Bool) (n : ℕ) → n ≡ pick g (range n n)
-pick-same true n = refl
-pick-same false n = refl
 
 choose-number : (g : Bool) (p : List ℕ) (k : Kind) (n : ℕ) → All IsByte p → Chosen g p (Number k n) (range n n, p)
 unfolding encode
@@ -150,17 +127,18 @@ record Picked (g : Bool) (p : List ℕ) (m : ℕ) : Type 0 where
   above : pairOf p .least ≤ m
   below : m ≤ pairOf p .greatest
   short : m ≤ 65535
-  texts : (ns : List ℕ) → Texts g (drop 4 p) ns → Texts g p (length (ones m) ∷ ns)
+  texts : (ns : List ℕ) → Picks g (drop 4 p) ns → Picks g p (length (ones m) ∷ ns)
 
 picked : (g : Bool) (p : List ℕ) (q : Range) (holds : ℕ → Bool) → All IsByte p → Paired holds p q → Picked g p (pick g q)
 picked g p q holds b h =
     let two = big-lt (take 2 (drop 2 p)) 2 (all-take 2 (drop 2 p) (all-drop 2 p b)) (length-take-le 2 (drop 2 p) (omega (arith, length-drop 2 p, h .there))) in
     let m = subst (λ (x : Range). (pairOf p .least ≤ pick g x) × (pick g x ≤ pairOf p .greatest)) (h .is) (ends g) in
+    let is : pick g (pairOf p) ≡ pick g q = ap (pick g) (h .is) in
     record {
       above = m .0;
       below = m .1;
       short = omega (arith, two, m .1);
-      texts = λ ns w. ((rw (length-ones (pick g q)) (h .there, m .0, m .1, w .0)), (length-ones (pick g q) ∙ ap (pick g) (sym (h .is)), w .1));
+      texts = λ ns w. rw (length-ones (pick g q)) ((h .there, m .0, m .1, w .0), (h .there, omega (arith, is), omega (arith, is), w .1));
     }
   where
     ends : (g : Bool) → (pairOf p .least ≤ pick g (pairOf p)) × (pick g (pairOf p) ≤ pairOf p .greatest)
@@ -178,15 +156,11 @@ choose-zero-ended g p q b h =
     record {
       v = text (ones m);
       fine = ones-fine m (x .short);
-      written = λ o. (ones m ++ (0 ∷ []), rw (ones-no-zero m), length-append (ones m) (0 ∷ []) ∙ ap (λ (k : ℕ). k + 1) (length-ones m) ∙ more g);
+      written = λ o. (ones m ++ (0 ∷ []), rw (ones-no-zero m), length-append (ones m) (0 ∷ []) ∙ ap (λ (k : ℕ). k + 1) (length-ones m) ∙ pick-zero g q);
       first = λ s z r. (s, refl);
       texts = x .texts;
       rest = all-drop 4 p b;
     }
-  where
-    more : (g : Bool) → pick g q + 1 ≡ pick g (range (q .least + 1) (q .greatest + 1))
-    more true = refl
-    more false = refl
 
 choose-counted : (g : Bool) (p : List ℕ) (n : ℕ) (q : Range) → All IsByte p → Paired (λ m. ltb m (256 ^ n)) p q → Chosen g p (Counted n) (range (n + q .least) (n + q .greatest), drop 4 p)
 unfolding encode
@@ -198,15 +172,11 @@ choose-counted g p n q b h =
     record {
       v = text (ones m);
       fine = ones-fine m (x .short);
-      written = λ o. (c o ++ ones m, rw (lt-ltb (length (ones m)) (256 ^ n) fits), length-append (c o) (ones m) ∙ rw (length-coded o n (pos (length (ones m))), length-ones m) (more g));
+      written = λ o. (c o ++ ones m, rw (lt-ltb (length (ones m)) (256 ^ n) fits), length-append (c o) (ones m) ∙ rw (length-coded o n (pos (length (ones m))), length-ones m) (pick-length g n q));
       first = λ s z r. (s, refl);
       texts = x .texts;
       rest = all-drop 4 p b;
     }
-  where
-    more : (g : Bool) → n + pick g q ≡ pick g (range (n + q .least) (n + q .greatest))
-    more true = refl
-    more false = refl
 
 choose : (g : Bool) (p : List ℕ) (f : Field) (e : Range × List ℕ) → All IsByte p → Taken p f e → Chosen g p f e
 choose g p f e b (number k n) = choose-number g p k n b
@@ -221,15 +191,15 @@ record Reaches (g : Bool) (r : Places) (o : Op) (t : Places) : Type 0 where
   fine : All Fine vs
   out : Output
   writes : (ws : List Value) → writeOp (place (side g r) (vs ++ ws)) o ≡ accepted (place (side g t) ws, out)
-  texts : (ts : List (Field × Value)) → Texts g (t .left) (textLengths ts) → Texts g (r .left) (textLengths (out .took ++ ts))
+  texts : (ts : List (Field × Value)) → Picks g (t .left) (textLengths ts) → Picks g (r .left) (textLengths (out .took ++ ts))
   rest : All IsByte (t .left)
 
 pad-reaches : (g : Bool) (r : Places) (n k : ℕ) (t : Places) → Onward r n (range k k, r .left) t → All IsByte (r .left) → Before (r .least) (r .greatest) → Reaches g r (Op.Pad n k) t
 unfolding writeOp
 pad-reaches g r n k t w b h =
-    let x = way g r n (range k k, r .left) t w h (omega arith) in
+    let x = way g r n (range k k, r .left) t w in
     let left : r .left ≡ t .left = ap (λ (y : Places). y .left) (w .is) in
-    let room : Roomy (side g r) (x .zeros + k) = subst (λ (m : ℕ). Roomy (side g r) (x .zeros + m)) (sym (pick-same g k)) (x .room) in
+    let room : Roomy (side g r) (x .zeros + k) = subst (λ (m : ℕ). Roomy (side g r) (x .zeros + m)) (sym (pick-same g k)) (way-room g r n (range k k, r .left) t w h (omega arith)) in
     let is : further (side g r) (x .zeros + k) ≡ side g t = ap (λ (m : ℕ). further (side g r) (x .zeros + m)) (pick-same g k) ∙ x .is in
     record {
       vs = [];
@@ -244,25 +214,22 @@ put-reaches : (g : Bool) (r : Places) (f : Field) (e : Range × List ℕ) (t : P
     → Reaches g r (Op.Put f) t
 unfolding writeOp writeField
 put-reaches g r f e t y w b h =
-    let x = way g r (natural f) e t w h (extents-order f (r .left) e y) in
+    let x = way g r (natural f) e t w in
+    let fits = way-room g r (natural f) e t w h (extents-order f (r .left) e y) in
     let c = choose g (r .left) f e b y in
     let left : e .1 ≡ t .left = ap (λ (z : Places). z .left) (w .is) in
     let bs = c .written (side g r .big) in
     let size : x .zeros + pick g (e .0) ≡ x .zeros + length (bs .0) = ap (λ (m : ℕ). x .zeros + m) (sym (bs .2)) in
-    let room : Roomy (side g r) (x .zeros + length (bs .0)) = subst (Roomy (side g r)) size (x .room) in
+    let room : Roomy (side g r) (x .zeros + length (bs .0)) = subst (Roomy (side g r)) size fits in
     let is : further (side g r) (x .zeros + length (bs .0)) ≡ side g t = ap (further (side g r)) (sym size) ∙ x .is in
     record {
       vs = c .v ∷ [];
       fine = (c .fine, tt);
       out = output (pads (x .zeros) ++ map byte (bs .0)) ((f, c .v) ∷ []) 1;
-      writes = λ ws. rw (x .padded, c .first (side g r) (x .zeros) (x .room) .1, bs .1, room-longer (side g r) (x .zeros + length (bs .0)) room, is);
+      writes = λ ws. rw (x .padded, c .first (side g r) (x .zeros) fits .1, bs .1, room-longer (side g r) (x .zeros + length (bs .0)) room, is);
       texts = λ ts i. c .texts (textLengths ts) (rw left i);
       rest = subst (All IsByte) left (c .rest);
     }
-
-set-side : (g : Bool) (x : _) (r : Places) → set x (side g r) ≡ side g (places (set x (r .least)) (set x (r .greatest)) (r .left))
-set-side true x r = refl
-set-side false x r = refl
 
 item-reaches : (g : Bool) (r : Places) (o : Op) (t : Places) → rangeOp r o ≡ accepted t → All IsByte (r .left) → Before (r .least) (r .greatest) → Reaches g r o t
 unfolding rangeOp writeOp
@@ -279,7 +246,7 @@ pub record RunReaches (g : Bool) (r : Places) (is : List (Checked Op)) (u : Plac
   pub fine : All Fine vs
   pub out : Output
   pub writes : writing (place (side g r) vs) is ≡ accepted (place (side g u) [], out)
-  pub texts : Texts g (r .left) (textLengths (out .took))
+  pub texts : Picks g (r .left) (textLengths (out .took))
 
 abbrev Reachable : Bool → Places → List (Checked Op) → Places → Type 0
 Reachable g r is u = All IsByte (r .left) → Before (r .least) (r .greatest) → RunReaches g r is u

@@ -1,14 +1,16 @@
 -- What an accepted item of a range was, by cases; that it keeps the least before the greatest; and one induction over accepted ranges.
 use Prim.Native.Nat.{ℕ, _+_, _^_, _≤_}
 use native.Mathlib.Omega.{arith}
-use mathlib.Core.Path.{_≡_, sym, _∙_, subst}
-use mathlib.Core.Bool.{Bool, true}
+use mathlib.Core.Path.{_≡_, refl, sym, ap, _∙_, subst}
+use mathlib.Core.Bool.{Bool, true, false}
 use mathlib.Core.List.{List, [], _∷_}
 use lib.Dec.{leb, ltb}
 use lib.ListN.{length, drop}
 use borrow.Author.Tests.{leb-true}
 use Rattle.definition.specs.Answers.{Checked, refused, accepted, _>>=_, _>>_, require}
-use Rattle.definition.specs.States.{further, longer, natural, padding}
+use Rattle.definition.specs.States.{set, further, longer, natural, padding}
+use Rattle.definition.specs.declared.State.{State}
+use Rattle.definition.specs.declared.Setting.{Setting}
 use Rattle.definition.specs.declared.Kind.{Kind}
 use Rattle.definition.specs.declared.Field.{Field}
 use Rattle.definition.specs.declared.Field.the-variants.{Number, Chars, ZeroEnded, Counted}
@@ -114,6 +116,43 @@ step-before r Op.Blank t e h = subst (λ (u : Places). Before (u .least) (u .gre
 step-before r (Op.Set x) t e h = subst (λ (u : Places). Before (u .least) (u .greatest)) (same e) (set-before x (r .least) (r .greatest) h)
 step-before r (Op.Pad n k) t e h = onward-before r n (range k k, r .left) t (omega arith) (pad-went r n k t e) h
 step-before r (Op.Put f) t e h = let p = put-went r f t e in onward-before r (natural f) (p .e) t (extents-order f (r .left) (p .e) (p .taken)) (p .went) h
+
+-- ---- one of the two lengths: the greatest (true) or the least
+
+abbrev pub pick : Bool → Range → ℕ
+pick true q = q .greatest
+pick false q = q .least
+
+pub pick-same : (g : Bool) (n : ℕ) → n ≡ pick g (range n n)
+pick-same true n = refl
+pick-same false n = refl
+
+-- with the zero of z, and with the length of s
+pub pick-zero : (g : Bool) (q : Range) → pick g q + 1 ≡ pick g (range (q .least + 1) (q .greatest + 1))
+pick-zero true q = refl
+pick-zero false q = refl
+
+pub pick-length : (g : Bool) (n : ℕ) (q : Range) → n + pick g q ≡ pick g (range (n + q .least) (n + q .greatest))
+pick-length true n q = refl
+pick-length false n q = refl
+
+abbrev pub side : Bool → Places → State
+side true r = r .greatest
+side false r = r .least
+
+pub set-side : (g : Bool) (x : Setting) (r : Places) → set x (side g r) ≡ side g (places (set x (r .least)) (set x (r .greatest)) (r .left))
+set-side true x r = refl
+set-side false x r = refl
+
+-- the way of that length over an item
+pub record Way (g : Bool) (r : Places) (n : ℕ) (e : Range × List ℕ) (t : Places) : Type 0 where
+  pub zeros : ℕ
+  pub padded : padding (side g r) n ≡ accepted zeros
+  pub is : further (side g r) (zeros + pick g (e .0)) ≡ side g t
+
+unfoldable pub way : (g : Bool) (r : Places) (n : ℕ) (e : Range × List ℕ) (t : Places) → Onward r n e t → Way g r n e t
+way true r n e t w = record { zeros = w .b; padded = w .greatest-zeros; is = ap (λ (x : Places). x .greatest) (w .is) }
+way false r n e t w = record { zeros = w .a; padded = w .least-zeros; is = ap (λ (x : Places). x .least) (w .is) }
 
 -- ---- an accepted range, by its first item
 pub on-item : (r : Places) (o : Op) (is : List (Checked Op)) (u : Places) → ranging r (accepted o ∷ is) ≡ accepted u → Bound (rangeOp r o) (λ t. ranging t is) u

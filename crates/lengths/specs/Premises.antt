@@ -25,6 +25,8 @@ pub record Needed : Type 0 where
   pub no-bytes : (packsizeRange (bytes "z") wide ≡ accepted (range 65537 65537)) × ((pick : Range → ℕ) → Reached pick (bytes "z") wide 65537 → ⊥)
   -- of `between`, texts within the pairs: "AB" has two bytes, and with its zero the record has three
   pub outside : (packsizeRange (bytes "z") (0 ∷ 0 ∷ 0 ∷ 1 ∷ []) ≡ accepted (range 1 2)) × (stringPack (bytes "z") (listOf (text (bytes "AB") ∷ [])) (room 3) .answer ≡ accepted 3)
+  -- of `all-least` and `all-greatest`, texts of just these lengths: "A" lies between, and its record has two bytes
+  pub neither : (packsizeRange (bytes "z") (0 ∷ 0 ∷ 0 ∷ 2 ∷ []) ≡ accepted (range 1 3)) × (stringPack (bytes "z") (listOf (text (bytes "A") ∷ [])) (room 2) .answer ≡ accepted 2)
   -- of `fixed`, whole pairs, and a format without z and s
   pub part : (stringPacksize (bytes "b") ≡ accepted 1) × (packsizeRange (bytes "b") (0 ∷ []) ≡ refused 21)
   pub open-size : (hasOpen (ops options (bytes "z")) ≡ true) × (stringPacksize (bytes "z") ≡ refused 10) × (packsizeRange (bytes "z") (0 ∷ 0 ∷ 0 ∷ 0 ∷ []) ≡ accepted (range 1 1))
