@@ -180,6 +180,7 @@ static struct {
     uint8_t bytes[PAIR * PAIRS];
     size_t length;
     bool has_bad_pair;
+    Slice format;
 } pairs;
 
 /* Pushes a number as an integer, or as the float that equals it. */
@@ -270,8 +271,33 @@ static bool is_too_long(lua_State *L)
     return lua_type(L, -1) == LUA_TSTRING && strstr(lua_tostring(L, -1), "65,535") != NULL;
 }
 
-/* The refusal's number and, of a tray, its record; of writing the value too, where it is about one. */
-static void check_refusal(lua_State *L, bool is_writing, uint64_t record)
+/* What the header's call gives with the first so many pairs. */
+static uint64_t range_refusal(size_t first)
+{
+    uint64_t words[2];
+    return digribbon_packsize_range(pairs.format.start, pairs.format.length, pairs.bytes, PAIR * first, words);
+}
+
+/* Of record lengths, the pair that a refusal is about: before it none is left, and with it the refusal comes. */
+static void check_pair(lua_State *L, bool is_range)
+{
+    size_t pair, count = pairs.length / PAIR;
+    lua_getfield(L, -1, "pair");
+    pair = (size_t)lua_tointeger(L, -1);
+    if (is_range && expected.number == 11)
+        HOLD(pair == count + 1);
+    else if (is_range && (expected.number == 15 || expected.number == 27))
+        HOLD(pair >= 1 && pair <= count && range_refusal(pair - 1) == 11 && range_refusal(pair) == expected.number);
+    else
+        HOLD(lua_isnil(L, -1));
+    lua_pop(L, 1);
+}
+
+/*
+ * The refusal's number and, of a tray, its record; of writing the value too, of record lengths the pair, where it is
+ * about one.
+ */
+static void check_refusal(lua_State *L, bool is_writing, bool is_range, uint64_t record)
 {
     if (list.has_long_text && expected.number == DIGRIBBON_WRONG_KIND && is_too_long(L))
         return;
@@ -286,6 +312,7 @@ static void check_refusal(lua_State *L, bool is_writing, uint64_t record)
     else
         HOLD(lua_isnil(L, -1));
     lua_pop(L, 2);
+    check_pair(L, is_range);
     HOLD(strstr(luaL_tolstring(L, -1, NULL), "bad argument #") != NULL);
 }
 
@@ -347,6 +374,7 @@ static void prepare(int function, State from, int64_t start, Slice format, Slice
                                            expected.result, ROOM, expected.words);
     } else if (function == RANGE) {
         push_lengths(lua, rest);
+        pairs.format = format;
         expected.number = digribbon_packsize_range(format.start, format.length, pairs.bytes, pairs.length,
                                                    expected.words);
     } else if (function == TRAY) {
@@ -397,7 +425,7 @@ static void check(int function, int status, int first, const State *state, State
     HOLD((status == LUA_OK) == (expected.number == 0));
     HOLD(state == NULL || memcmp(state, status == LUA_OK ? &next : &from, sizeof from) == 0);
     if (status != LUA_OK) {
-        check_refusal(lua, is_writing, function == TRAY ? run.place : 0);
+        check_refusal(lua, is_writing, function == RANGE, function == TRAY ? run.place : 0);
     } else if (function == PACKSIZE) {
         HOLD((uint64_t)lua_tointeger(lua, first) == expected.words[0]);
     } else if (function == UNPACK) {

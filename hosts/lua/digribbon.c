@@ -89,10 +89,10 @@ static int shown(lua_State *L, int argument)
     return argument - is_method;
 }
 
-/* What a refusal is about: an argument; which value, from 1, or 0; which record of a tray, from 1, or 0. */
+/* What a refusal is about: an argument; which value, which record of a tray, which pair, each from 1, or 0. */
 typedef struct {
     int argument, value;
-    lua_Integer record;
+    lua_Integer record, pair;
 } About;
 
 static void set_place(lua_State *L, const char *name, lua_Integer place)
@@ -103,10 +103,12 @@ static void set_place(lua_State *L, const char *name, lua_Integer place)
     }
 }
 
-/* Pushes where in a tray a refusal is; elsewhere the argument says it. */
+/* Pushes where in a tray or among pairs a refusal is; elsewhere the argument says it. */
 static void push_place(lua_State *L, About about)
 {
-    if (about.record == 0)
+    if (about.pair > 0)
+        lua_pushfstring(L, " at pair %I", about.pair);
+    else if (about.record == 0)
         lua_pushliteral(L, "");
     else if (about.value == 0)
         lua_pushfstring(L, " at record %I", about.record);
@@ -115,8 +117,8 @@ static void push_place(lua_State *L, About about)
 }
 
 /*
- * Raises a refusal: a table with its number, sentence and cause, the value and the record that it is about, and as text
- * a message as Lua's own of bad arguments, with the caller's place.
+ * Raises a refusal: a table with its number, sentence and cause, the value, the record and the pair that it is about,
+ * and as text a message as Lua's own of bad arguments, with the caller's place.
  */
 static int refuse(lua_State *L, const char *function, uint64_t number, About about)
 {
@@ -134,6 +136,7 @@ static int refuse(lua_State *L, const char *function, uint64_t number, About abo
     lua_setfield(L, -2, "cause");
     set_place(L, "value", about.value);
     set_place(L, "record", about.record);
+    set_place(L, "pair", about.pair);
     luaL_where(L, 1);
     push_place(L, about);
     lua_pushfstring(L, "%sbad argument #%d to '%s' (refusal %d%s: %s)", lua_tostring(L, -2), shown(L, about.argument),
@@ -149,6 +152,28 @@ static int refusal_tostring(lua_State *L)
     luaL_checktype(L, 1, LUA_TTABLE);
     lua_getfield(L, 1, "message");
     return 1;
+}
+
+/* What a call is refused by with the first so many of its values or pairs, or 0. */
+typedef uint64_t Ask(const void *call, size_t first);
+
+/*
+ * Which of so many values or pairs a refusal is about. Where none is left, the next one. Else the first such that it
+ * and those before it are refused for another reason than that none is left.
+ */
+static size_t refused_position(uint64_t number, size_t count, Ask *ask, const void *call)
+{
+    size_t before = 0, position = count;
+    if (number == DIGRIBBON_NO_VALUE_LEFT)
+        return count + 1;
+    while (before + 1 < position) {
+        size_t middle = before + (position - before) / 2;
+        if (ask(call, middle) == DIGRIBBON_NO_VALUE_LEFT)
+            before = middle;
+        else
+            position = middle;
+    }
+    return position;
 }
 
 /* ---- value lists */
@@ -290,29 +315,22 @@ static size_t sizes_of_c(Slice format)
     return sum;
 }
 
-/*
- * Which of so many values a refusal is about. Where none is left, the next one. Else the first such that it and those
- * before it are refused for another reason than that none is left.
- */
+/* Writes the first so many values of a writing, to no room. */
+static uint64_t write_first(const void *call, size_t first)
+{
+    Writing writing = *(const Writing *)call;
+    uint8_t record;
+    uint64_t length;
+    Written written;
+    digribbon_list_after(writing.list.start, writing.list.length, first, &length);
+    writing.list.length = length;
+    return write_record(&writing, &record, 0, &written);
+}
+
+/* Which of so many values a refusal is about. */
 static int refused_value(const Writing *writing, uint64_t number, int count)
 {
-    int before = 0, position = count;
-    if (number == DIGRIBBON_NO_VALUE_LEFT)
-        return count + 1;
-    while (before + 1 < position) {
-        int middle = before + (position - before) / 2;
-        Writing first = *writing;
-        uint8_t record;
-        uint64_t length;
-        Written written;
-        digribbon_list_after(writing->list.start, writing->list.length, (uint64_t)middle, &length);
-        first.list.length = length;
-        if (write_record(&first, &record, 0, &written) == DIGRIBBON_NO_VALUE_LEFT)
-            before = middle;
-        else
-            position = middle;
-    }
-    return position;
+    return (int)refused_position(number, (size_t)count, write_first, writing);
 }
 
 /* Whether a refusal of writing is about a value. */
@@ -327,7 +345,7 @@ static int refuse_writing(lua_State *L, const Writing *writing, uint64_t number,
     int value = is_about_value(number) ? refused_value(writing, number, count) : 0;
     if (number == DIGRIBBON_WRONG_KIND && is_long_text(L, at + value))
         return luaL_argerror(L, at + value, "a text has at most 65,535 bytes");
-    return refuse(L, "pack", number, (About){at + value, value, 0});
+    return refuse(L, "pack", number, (About){.argument = at + value, .value = value});
 }
 
 /*
@@ -491,7 +509,7 @@ static int field_count(Slice list)
 /* Raises a refusal of a tray. */
 static int refuse_tray(lua_State *L, const Tray *tray, uint64_t number, uint64_t place)
 {
-    About about = {TRAY_FORMAT, 0, (lua_Integer)place};
+    About about = {.argument = TRAY_FORMAT, .record = (lua_Integer)place};
     if (is_about_value(number)) {
         Writing writing = {{0, 1, 0}, tray->format, list_at(tray->run, place)};
         about.argument = LISTS;
@@ -510,6 +528,11 @@ static int refuse_tray(lua_State *L, const Tray *tray, uint64_t number, uint64_t
 
 enum { RANGE_FORMAT = 1, LENGTHS }; /* packsize_range's arguments: the format, the pairs of text lengths */
 enum { PAIR = 4 };                  /* bytes of a pair */
+
+/* A format, and the pairs for its texts. */
+typedef struct {
+    Slice format, pairs;
+} Lengths;
 
 /* Puts a text length of the pair at the stack's top: its first is the least, its second the greatest. */
 static void put_text_length(lua_State *L, size_t pair, int place, uint8_t at[LENGTH])
@@ -551,11 +574,31 @@ static Slice make_pairs(lua_State *L, uint8_t small[SMALL])
     return (Slice){start, length};
 }
 
+/* Measures with the first so many pairs. */
+static uint64_t measure_first(const void *call, size_t first)
+{
+    const Lengths *lengths = call;
+    uint64_t answer[2];
+    return digribbon_packsize_range(lengths->format.start, lengths->format.length, lengths->pairs.start, PAIR * first,
+                                    answer);
+}
+
 /* Whether a refusal of packsize_range is about a pair. */
 static bool is_about_pair(uint64_t number)
 {
     return number == DIGRIBBON_NO_VALUE_LEFT || number == DIGRIBBON_TEXT_DOES_NOT_FIT ||
            number == DIGRIBBON_LEAST_ABOVE_GREATEST;
+}
+
+/* Raises a refusal of packsize_range. */
+static int refuse_lengths(lua_State *L, const Lengths *lengths, uint64_t number)
+{
+    About about = {.argument = RANGE_FORMAT};
+    if (is_about_pair(number)) {
+        about.argument = LENGTHS;
+        about.pair = (lua_Integer)refused_position(number, lengths->pairs.length / PAIR, measure_first, lengths);
+    }
+    return refuse(L, "packsize_range", number, about);
 }
 
 /* ---- the module's functions */
@@ -603,7 +646,7 @@ static int packsize(lua_State *L)
     uint64_t size;
     uint64_t number = digribbon_packsize(format.start, format.length, &size);
     if (number != 0)
-        return refuse(L, "packsize", number, (About){1, 0, 0});
+        return refuse(L, "packsize", number, (About){.argument = 1});
     lua_pushinteger(L, (lua_Integer)size);
     return 1;
 }
@@ -611,15 +654,16 @@ static int packsize(lua_State *L)
 /* packsize_range(fmt, {{least, greatest}, ...}): the least and the greatest length of a record */
 static int packsize_range(lua_State *L)
 {
-    Slice format = check_text(L, RANGE_FORMAT), pairs;
+    Lengths lengths = {.format = check_text(L, RANGE_FORMAT)};
     uint8_t small[SMALL];
     uint64_t answer[2], number;
     luaL_checktype(L, LENGTHS, LUA_TTABLE);
     lua_settop(L, LENGTHS);
-    pairs = make_pairs(L, small);
-    number = digribbon_packsize_range(format.start, format.length, pairs.start, pairs.length, answer);
+    lengths.pairs = make_pairs(L, small);
+    number = digribbon_packsize_range(lengths.format.start, lengths.format.length, lengths.pairs.start,
+                                      lengths.pairs.length, answer);
     if (number != 0)
-        return refuse(L, "packsize_range", number, (About){is_about_pair(number) ? LENGTHS : RANGE_FORMAT, 0, 0});
+        return refuse_lengths(L, &lengths, number);
     lua_pushinteger(L, (lua_Integer)answer[0]);
     lua_pushinteger(L, (lua_Integer)answer[1]);
     return 2;
@@ -658,7 +702,7 @@ static int unpack(lua_State *L)
         number = digribbon_unpack(format.start, format.length, data.start, data.length, start, list, room, answer);
     }
     if (number != 0)
-        return refuse(L, "unpack", number, (About){refused_argument(number), 0, 0});
+        return refuse(L, "unpack", number, (About){.argument = refused_argument(number)});
     count = push_values(L, (Slice){list, answer[0]});
     luaL_checkstack(L, 1, "too many results");
     lua_pushinteger(L, (lua_Integer)answer[1]);
@@ -676,10 +720,10 @@ static void check_state(lua_State *L, State state)
     Written written;
     uint64_t number = write_record(&by_limit, &record, 0, &written);
     if (number != 0)
-        refuse(L, "writer", number, (About){2, 0, 0});
+        refuse(L, "writer", number, (About){.argument = 2});
     number = write_record(&by_length, &record, 0, &written);
     if (number != 0)
-        refuse(L, "writer", number, (About){3, 0, 0});
+        refuse(L, "writer", number, (About){.argument = 3});
 }
 
 /* writer([order [, limit [, length]]]): a writer at that state, else at the start state */
@@ -750,7 +794,7 @@ static int day_number(lua_State *L)
     uint64_t answer;
     uint64_t number = digribbon_day_number(year, month, day, &answer);
     if (number != 0)
-        return refuse(L, "day_number", number, (About){refused_part_of_date(number, year, month), 0, 0});
+        return refuse(L, "day_number", number, (About){.argument = refused_part_of_date(number, year, month)});
     lua_pushinteger(L, (lua_Integer)answer);
     return 1;
 }
@@ -761,7 +805,7 @@ static int date(lua_State *L)
     uint64_t answer[3];
     uint64_t number = digribbon_date(luaL_checkinteger(L, 1), answer);
     if (number != 0)
-        return refuse(L, "date", number, (About){1, 0, 0});
+        return refuse(L, "date", number, (About){.argument = 1});
     for (int i = 0; i < 3; i++)
         lua_pushinteger(L, (lua_Integer)answer[i]);
     return 3;
@@ -774,7 +818,7 @@ static int last_day(lua_State *L)
     uint64_t answer;
     uint64_t number = digribbon_last_day(first, months, &answer);
     if (number != 0)
-        return refuse(L, "last_day", number, (About){number == DIGRIBBON_MONTHS_OUTSIDE ? 2 : 1, 0, 0});
+        return refuse(L, "last_day", number, (About){.argument = number == DIGRIBBON_MONTHS_OUTSIDE ? 2 : 1});
     lua_pushinteger(L, (lua_Integer)answer);
     return 1;
 }

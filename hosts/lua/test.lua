@@ -292,19 +292,51 @@ test("every refusal of packsize_range, in the order of its checks", function()
         refused(number, packsize_range, format, { { 0, 1 } })
         refused(number, packsize_range, format, { { 3, 2 } })
     end
-    refused(11, packsize_range, "z", {})
     refused(11, packsize_range, "zq", {})
-    refused(11, packsize_range, "zz", { { 0, 1 } })
     refused(11, packsize_range, "c9223372036854775807z", {})
-    refused(27, packsize_range, "z", { { 3, 2 } })
     refused(27, packsize_range, "zz", { { 256, 255 } })
     refused(27, packsize_range, "s1", { { 257, 256 } })
     refused(27, packsize_range, "c9223372036854775807z", { { 1, 0 } })
-    refused(15, packsize_range, "s1", { { 0, 256 } })
-    refused(15, packsize_range, "zs1", { { 0, 255 }, { 0, 256 } })
     refused(15, packsize_range, "c9223372036854775807s1", { { 0, 256 } })
     refused(9, packsize_range, "c9223372036854775806z", { { 0, 1 } })
     refused(1, packsize_range, "zq", { { 0, 0 } })
+end)
+
+test("packsize_range: a refusal names its pair", function()
+    local function about(pair, number, format, lengths)
+        local refusal = refused(number, packsize_range, format, lengths)
+        assert(refusal.pair == pair and refusal.value == nil and refusal.record == nil, tostring(refusal))
+    end
+    about(1, 11, "z", {})
+    about(2, 11, "zz", { { 0, 1 } })
+    about(4, 11, "<!4 b z x s1 zz", { { 0, 9 }, { 0, 9 }, { 0, 9 } })
+    about(1, 27, "z", { { 3, 2 } })
+    about(2, 27, "zz", { { 0, 1 }, { 1, 0 } })
+    about(2, 27, "zzz", { { 0, 1 }, { 1, 0 }, { 1, 0 }, { 0, 1 } })
+    about(1, 15, "s1", { { 0, 256 } })
+    about(2, 15, "zs1", { { 0, 255 }, { 0, 256 } })
+    about(2, 15, "zs1zz", { { 0, 256 }, { 0, 256 }, { 1, 0 }, { 1, 0 }, { 0, 1 } })
+    for number, format in ipairs { "q", "c18446744073709551616", "s17", "!17", "!3", "!4s3", "Xz", "c" } do
+        about(nil, number, format, { { 3, 2 } })
+        about(nil, number, "z" .. format, { { 0, 2 }, { 3, 2 } })
+    end
+    about(nil, 9, "c9223372036854775806z", { { 0, 1 }, { 1, 0 } })
+end)
+
+test("packsize_range: a refusal names its pair among many", function()
+    local lengths = {}
+    for count = 0, 299 do
+        assert(refused(11, packsize_range, ("z"):rep(300), lengths).pair == count + 1)
+        lengths[count + 1] = { 0, 1 }
+    end
+    for _, wrong in ipairs { 1, 2, 149, 150, 151, 256, 257, 299, 300 } do
+        lengths[wrong] = { 1, 0 }
+        assert(refused(27, packsize_range, ("z"):rep(300), lengths).pair == wrong)
+        assert(refused(27, packsize_range, ("z"):rep(1000), lengths).pair == wrong)
+        lengths[wrong] = { 0, 256 }
+        assert(refused(15, packsize_range, ("s1x"):rep(wrong), lengths).pair == wrong)
+        lengths[wrong] = { 0, 1 }
+    end
 end)
 
 test("a refusal says number, sentence, cause, value and place", function()
@@ -321,9 +353,12 @@ test("a refusal says number, sentence, cause, value and place", function()
     assert(refusal.cause == "supplier of values" and refusal.value == nil and refusal.record == nil)
     assert(tostring(refusal) == "bad argument #2 to 'last_day' (refusal 26: The months are outside 1 to 12.)")
     refusal = refused(27, packsize_range, "z", { { 3, 2 } })
-    assert(refusal.cause == "supplier of values" and refusal.value == nil and refusal.record == nil)
+    assert(refusal.cause == "supplier of values" and refusal.pair == 1)
     assert(tostring(refusal) ==
-        "bad argument #2 to 'packsize_range' (refusal 27: A least text length is above its greatest.)")
+        "bad argument #2 to 'packsize_range' (refusal 27 at pair 1: A least text length is above its greatest.)")
+    refusal = refused(8, packsize_range, "zc", { { 2, 3 } })
+    assert(tostring(refusal) == "bad argument #1 to 'packsize_range' (refusal 8: c has no numeral.)")
+    assert(refused(11, pack, "b").pair == nil and refused(11, pack_tray, "b", { {} }).pair == nil)
 end)
 
 test("a refusal names its argument", function()
@@ -561,7 +596,7 @@ test("packsize_range: a finalizer may change the tables", function()
             wrong = wrong + 1
             assert(least:find("(pair 2: table expected, got number)", 1, true), least)
         else
-            assert(least.number == 11, least)
+            assert(least.number == 11 and (least.pair == 200 or least.pair == 301), least)
         end
     end
     over = true

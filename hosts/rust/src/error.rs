@@ -1,4 +1,4 @@
-//! Refusals: number, sentence, cause, and the value and the record that one is about.
+//! Refusals: number, sentence, cause, and the value, the pair and the record that one is about.
 
 use std::num::NonZero;
 use std::{error, fmt};
@@ -113,7 +113,8 @@ impl Refusal {
     }
 }
 
-/// A refused call: why, and which value it is about, in a tray of which record. A refusal leaves everything as it was.
+/// A refused call: why, and which value it is about, in a tray of which record, or which pair of text lengths. A
+/// refusal leaves everything as it was.
 ///
 /// ```
 /// use digribbon::{Cause, Refusal, ValueList};
@@ -135,6 +136,7 @@ impl Refusal {
 pub struct Error {
     refusal: Refusal,
     value: Option<NonZero<usize>>,
+    pair: Option<NonZero<usize>>,
     record: Option<NonZero<usize>>,
 }
 
@@ -142,6 +144,11 @@ impl Error {
     /// A refusal that is about the value at a position, from 1.
     pub(crate) fn at_value(refusal: Refusal, position: usize) -> Error {
         Error { value: NonZero::new(position), ..Error::from(refusal) }
+    }
+
+    /// A refusal that is about the pair of text lengths at a position, from 1.
+    pub(crate) fn at_pair(refusal: Refusal, position: usize) -> Error {
+        Error { pair: NonZero::new(position), ..Error::from(refusal) }
     }
 
     /// The same about a record of a tray, from 1.
@@ -180,6 +187,14 @@ impl Error {
         self.value.map(NonZero::get)
     }
 
+    /// Which range the refusal is about, from 1: a range is a pair of text lengths.
+    /// [`packsize_range`](crate::packsize_range) says it of every refusal that the supplier of the ranges causes; where
+    /// none is left, it is the one that is missing.
+    #[must_use]
+    pub fn pair_position(self) -> Option<usize> {
+        self.pair.map(NonZero::get)
+    }
+
     /// Which record of a tray the refusal is about, from 1. [`pack_tray`](crate::pack_tray) says it of every refusal but
     /// [`ResultTooLong`](Refusal::ResultTooLong), which is about the whole tray.
     #[must_use]
@@ -190,11 +205,11 @@ impl Error {
 
 impl From<Refusal> for Error {
     fn from(refusal: Refusal) -> Error {
-        Error { refusal, value: None, record: None }
+        Error { refusal, value: None, pair: None, record: None }
     }
 }
 
-/// Whether the call was refused for this reason, whichever value and record it is about.
+/// Whether the call was refused for this reason, whichever value, pair or record it is about.
 impl PartialEq<Refusal> for Error {
     fn eq(&self, refusal: &Refusal) -> bool {
         self.refusal == *refusal
@@ -204,11 +219,12 @@ impl PartialEq<Refusal> for Error {
 impl fmt::Display for Error {
     fn fmt(&self, f: &mut fmt::Formatter<'_>) -> fmt::Result {
         write!(f, "refusal {}", self.number())?;
-        match (self.value, self.record) {
-            (Some(value), Some(record)) => write!(f, " at value {value} of record {record}")?,
-            (Some(value), None) => write!(f, " at value {value}")?,
-            (None, Some(record)) => write!(f, " at record {record}")?,
-            (None, None) => (),
+        match (self.pair, self.value, self.record) {
+            (Some(pair), ..) => write!(f, " at pair {pair}")?,
+            (None, Some(value), Some(record)) => write!(f, " at value {value} of record {record}")?,
+            (None, Some(value), None) => write!(f, " at value {value}")?,
+            (None, None, Some(record)) => write!(f, " at record {record}")?,
+            (None, None, None) => (),
         }
         write!(f, ": {}", self.sentence())
     }

@@ -33,8 +33,8 @@
 //! # Refusals
 //!
 //! A call that is refused changes nothing and says why by an [`Error`]: a [`Refusal`] with its number, a sentence and
-//! who causes it, as in `docs/REFUSALS.md`, and, in writing, which value it is about. A tray has a [`TrayError`], which
-//! also says which record it is about.
+//! who causes it, as in `docs/REFUSALS.md`, and, in writing, which value it is about, or which pair of text lengths. A
+//! tray has a [`TrayError`], which also says which record it is about.
 //!
 //! # Memory
 //!
@@ -61,6 +61,7 @@ compile_error!("Digribbon is for hosts with pointers of 64 bits.");
 mod calls;
 mod dates;
 mod error;
+mod position;
 mod range;
 mod reading;
 mod room;
@@ -109,8 +110,8 @@ pub fn packsize(format: impl AsRef<[u8]>) -> Result<u64, Error> {
 /// # Errors
 ///
 /// The format's own: [`UnknownOption`](Refusal::UnknownOption) to [`LengthTooLarge`](Refusal::LengthTooLarge), which is
-/// about the greatest length. Those of a range: [`NoValueLeft`](Refusal::NoValueLeft) where none is left,
-/// [`LeastAboveGreatest`](Refusal::LeastAboveGreatest) where its start is above its end, and
+/// about the greatest length. Those of a range, which they name: [`NoValueLeft`](Refusal::NoValueLeft) where none is
+/// left, [`LeastAboveGreatest`](Refusal::LeastAboveGreatest) where its start is above its end, and
 /// [`TextDoesNotFit`](Refusal::TextDoesNotFit) where its end is more than the length in front of an `s` can say. And
 /// [`ResultTooLong`](Refusal::ResultTooLong) where no memory for a copy of the ranges can be had.
 ///
@@ -129,14 +130,15 @@ pub fn packsize(format: impl AsRef<[u8]>) -> Result<u64, Error> {
 /// assert_eq!(digribbon::pack_into(pass, &values, &mut file), Ok(16));
 ///
 /// let reversed = RangeInclusive::new(20, 2);
-/// assert_eq!(digribbon::packsize_range(pass, [reversed]).unwrap_err(), Refusal::LeastAboveGreatest);
+/// let error = digribbon::packsize_range(pass, [reversed]).unwrap_err();
+/// assert_eq!((error.refusal(), error.pair_position()), (Refusal::LeastAboveGreatest, Some(1)));
 /// # Ok::<(), Box<dyn std::error::Error>>(())
 /// ```
 pub fn packsize_range(
     format: impl AsRef<[u8]>,
     lengths: impl IntoIterator<Item: Borrow<RangeInclusive<u16>>>,
 ) -> Result<RangeInclusive<u64>, Error> {
-    Ok(range::packsize_range(format.as_ref(), lengths)?)
+    range::packsize_range(format.as_ref(), lengths)
 }
 
 /// The values as a record. Values that the format does not take are ignored.

@@ -1,7 +1,7 @@
 //! Writing: what is lent to a call, and which value a refusal is about.
 
 use crate::calls::{self, Continued, Room};
-use crate::{Error, Refusal, State, Values, room};
+use crate::{Error, Refusal, State, Values, position, room};
 
 /// Values to be written by a format, from a state. Plain writing starts from the start state.
 #[derive(Clone, Copy)]
@@ -36,27 +36,18 @@ impl<'a> Writing<'a> {
     /// A refusal of this writing, with the value that it is about.
     pub(crate) fn error(self, refusal: Refusal) -> Error {
         match refusal {
-            Refusal::NoValueLeft => Error::at_value(refusal, Values::trusted(self.list).len() + 1),
-            Refusal::WrongKind | Refusal::OutOfRange | Refusal::ZeroInText | Refusal::TextDoesNotFit => {
-                Error::at_value(refusal, self.refused_value())
-            }
+            Refusal::NoValueLeft
+            | Refusal::WrongKind
+            | Refusal::OutOfRange
+            | Refusal::ZeroInText
+            | Refusal::TextDoesNotFit => Error::at_value(refusal, self.refused_value(refusal)),
             _ => refusal.into(),
         }
     }
 
-    /// The position of the value that is refused: with the values before it alone, none is left for its option; with
-    /// it, the refusal comes, whatever follows.
-    fn refused_value(self) -> usize {
-        let (mut before, mut position) = (0, Values::trusted(self.list).len());
-        while before + 1 < position {
-            let middle = before.midpoint(position);
-            let first = &self.list[..calls::list_after(self.list, middle)];
-            match self.call(first, &mut []) {
-                Err(Refusal::NoValueLeft) => before = middle,
-                _ => position = middle,
-            }
-        }
-        position
+    fn refused_value(self, refusal: Refusal) -> usize {
+        let ask = |first: usize| self.call(&self.list[..calls::list_after(self.list, first)], &mut []);
+        position::refused(refusal, Values::trusted(self.list).len(), ask)
     }
 }
 

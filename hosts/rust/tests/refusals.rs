@@ -68,7 +68,7 @@ fn numbers_lead_back() {
 fn errors_say_what_their_refusal_says() {
     for refusal in Refusal::ALL {
         let error = Error::from(*refusal);
-        assert_eq!((error.refusal(), error.value_position()), (*refusal, None));
+        assert_eq!((error.refusal(), error.value_position(), error.pair_position()), (*refusal, None, None));
         assert_eq!((error.number(), error.cause()), (refusal.number(), refusal.cause()));
         assert_eq!(error.to_string(), format!("refusal {}: {}", refusal.number(), refusal.sentence()));
     }
