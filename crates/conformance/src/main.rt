@@ -1,5 +1,5 @@
-// Runs what its standard input holds through our calls: vectors made by tools/vectors.py, recorded answers of the original,
-// and profiles, for which the file stdout has document 01's answers, worked out by hand.
+// Runs what its standard input holds through our calls: vectors made by tools/vectors.py, recorded answers of the original or of
+// a plain reading, and profiles, for which the file stdout has document 01's answers, worked out by hand.
 //
 // A line that begins with # names a group: #v one of vectors, #r one of recorded answers, and of a group it is written how
 // many cases there are, and each that does not hold. Any other # is a heading, and the lines below it are profiles: each

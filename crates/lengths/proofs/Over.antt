@@ -39,18 +39,20 @@ same-pair holds (a ∷ b ∷ c ∷ d ∷ p) q x e =
     let checks : Checked Range = require (leb (y .least) (y .greatest)) 27 >> (require (holds (y .greatest)) 15 >> accepted y) in
     record { pair = rw (le-leb 4 (length (a ∷ b ∷ c ∷ d ∷ (p ++ q))) (omega arith)) (passed (leb 4 (length (a ∷ b ∷ c ∷ d ∷ p))) 11 checks e .1); rest = refl }
 
+-- the field of a text, whose bytes are g of its pair
+text-more : (holds : ℕ → Bool) (g : Range → Range) (p q : List ℕ) (e : Range × List ℕ) → _>>=_ {B = Range × List ℕ} (pairFor holds p) (λ x. accepted (g x, drop 4 p)) ≡ accepted e
+    → _>>=_ {B = Range × List ℕ} (pairFor holds (p ++ q)) (λ x. accepted (g x, drop 4 (p ++ q))) ≡ accepted (e .0, e .1 ++ q)
+text-more holds g p q e h =
+    let b = bound (pairFor holds p) (λ x. accepted (g x, drop 4 p)) h in
+    let s = same-pair holds p q (b .val) (b .is) in
+    rw (s .pair, s .rest) (ap (λ (x : Range × List ℕ). accepted (x .0, x .1 ++ q)) (same (b .rest)))
+
 extents-more : (q : List ℕ) (f : Field) (p : List ℕ) (e : Range × List ℕ) → extents f p ≡ accepted e → extents f (p ++ q) ≡ accepted (e .0, e .1 ++ q)
 unfolding extents
 extents-more q (Number k n) p e h = ap (λ (x : Range × List ℕ). accepted (x .0, x .1 ++ q)) (same h)
 extents-more q (Chars n) p e h = ap (λ (x : Range × List ℕ). accepted (x .0, x .1 ++ q)) (same h)
-extents-more q ZeroEnded p e h =
-    let b = bound (pairFor (λ m. true) p) (λ x. accepted (range (x .least + 1) (x .greatest + 1), drop 4 p)) h in
-    let s = same-pair (λ m. true) p q (b .val) (b .is) in
-    rw (s .pair, s .rest) (ap (λ (x : Range × List ℕ). accepted (x .0, x .1 ++ q)) (same (b .rest)))
-extents-more q (Counted n) p e h =
-    let b = bound (pairFor (λ m. ltb m (256 ^ n)) p) (λ x. accepted (range (n + x .least) (n + x .greatest), drop 4 p)) h in
-    let s = same-pair (λ m. ltb m (256 ^ n)) p q (b .val) (b .is) in
-    rw (s .pair, s .rest) (ap (λ (x : Range × List ℕ). accepted (x .0, x .1 ++ q)) (same (b .rest)))
+extents-more q ZeroEnded p e h = text-more (λ m. true) (λ x. range (x .least + 1) (x .greatest + 1)) p q e h
+extents-more q (Counted n) p e h = text-more (λ m. ltb m (256 ^ n)) (λ x. range (n + x .least) (n + x .greatest)) p q e h
 
 onward-more : (q : List ℕ) (r : Places) (z : Range) (e : Range × List ℕ) (t : Places) → onward r z e ≡ accepted t → onward (more q r) z (e .0, e .1 ++ q) ≡ accepted (more q t)
 onward-more q r z e t h =

@@ -33,8 +33,8 @@ use Rattle.laws.proofs.Steps.{Roomy, room-longer}
 use Rattle.lengths.specs.Lengths.{range, pairOf, Places, rangeOp, ranging}
 use Rattle.lengths.specs.Claims.{textLengths, leastOf, greatestOf, Between}
 use Rattle.lengths.specs.declared.Range.{Range}
-use Rattle.lengths.proofs.Orders.{Before, item-before}
-use Rattle.lengths.proofs.Steps.{Paired, Taken, number, chars, zero-ended, counted, extents-order, Onward, pad-went, put-went, step-before, pick, pick-same, pick-zero, pick-length, side, set-side, way, by-items}
+use Rattle.lengths.proofs.Orders.{Before}
+use Rattle.lengths.proofs.Steps.{Paired, Taken, number, chars, zero-ended, counted, extents-order, Onward, pad-went, put-went, onward-before, step-before, pick, pick-same, pick-zero, pick-length, side, set-side, way, by-items}
 
 -- text lengths within the pairs p, each as picked
 abbrev Picks : Bool → List ℕ → List ℕ → Type 0
@@ -46,7 +46,7 @@ way-room : (g : Bool) (r : Places) (n : ℕ) (e : Range × List ℕ) (t : Places
 unfolding way
 way-room true r n e t w h l = w .room
 way-room false r n e t w h l =
-    let order = item-before (r .least) (r .greatest) n (w .a) (w .b) (e .0 .least) (e .0 .greatest) h (w .least-zeros) (w .greatest-zeros) l .lengths in
+    let order = rw (← w .is) at (onward-before r n e t l w h .lengths) in
     let most = leb-true (r .greatest .length + (w .b + e .0 .greatest)) (2 ^ 63 - 1) (w .room) in
     le-leb (r .least .length + (w .a + e .0 .least)) (2 ^ 63 - 1) (omega (arith, order, most))
 

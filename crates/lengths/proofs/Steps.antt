@@ -44,16 +44,19 @@ pub data Taken (p : List ℕ) : Field → Range × List ℕ → Type 0 where
   zero-ended : (q : Range) → Paired (λ m. true) p q → Taken p ZeroEnded (range (q .least + 1) (q .greatest + 1), drop 4 p)
   counted : (n : ℕ) (q : Range) → Paired (λ m. ltb m (256 ^ n)) p q → Taken p (Counted n) (range (n + q .least) (n + q .greatest), drop 4 p)
 
+-- the field of a text, whose bytes are g of its pair
+text-taken : (holds : ℕ → Bool) (g : Range → Range) (p : List ℕ) (e : Range × List ℕ) → _>>=_ {B = Range × List ℕ} (pairFor holds p) (λ q. accepted (g q, drop 4 p)) ≡ accepted e
+    → (q : Range) × Paired holds p q × ((g q, drop 4 p) ≡ e)
+text-taken holds g p e h = let b = bound (pairFor holds p) (λ q. accepted (g q, drop 4 p)) h in (b .val, paired holds p (b .val) (b .is), same (b .rest))
+
 pub taken-of : (f : Field) (p : List ℕ) (e : Range × List ℕ) → extents f p ≡ accepted e → Taken p f e
 unfolding extents
 taken-of (Number k n) p e h = subst (Taken p (Number k n)) (same h) (number k n)
 taken-of (Chars n) p e h = subst (Taken p (Chars n)) (same h) (chars n)
-taken-of ZeroEnded p e h =
-    let b = bound (pairFor (λ m. true) p) (λ q. accepted (range (q .least + 1) (q .greatest + 1), drop 4 p)) h in
-    subst (Taken p ZeroEnded) (same (b .rest)) (zero-ended (b .val) (paired (λ m. true) p (b .val) (b .is)))
+taken-of ZeroEnded p e h = let t = text-taken (λ m. true) (λ q. range (q .least + 1) (q .greatest + 1)) p e h in subst (Taken p ZeroEnded) (t .2) (zero-ended (t .0) (t .1))
 taken-of (Counted n) p e h =
-    let b = bound (pairFor (λ m. ltb m (256 ^ n)) p) (λ q. accepted (range (n + q .least) (n + q .greatest), drop 4 p)) h in
-    subst (Taken p (Counted n)) (same (b .rest)) (counted n (b .val) (paired (λ m. ltb m (256 ^ n)) p (b .val) (b .is)))
+    let t = text-taken (λ m. ltb m (256 ^ n)) (λ q. range (n + q .least) (n + q .greatest)) p e h in
+    subst (Taken p (Counted n)) (t .2) (counted n (t .0) (t .1))
 
 paired-order : {holds : ℕ → Bool} {p : List ℕ} {q : Range} → Paired holds p q → q .least ≤ q .greatest
 paired-order h = subst (λ (q : Range). q .least ≤ q .greatest) (h .is) (h .rising)
@@ -105,7 +108,7 @@ put-went r f t e =
     record { e = x .val; taken = taken-of f (r .left) (x .val) (x .is); went = went r (natural f) (z .val) (x .val) t (z .is) (x .rest) }
 
 -- the least stays before the greatest
-onward-before : (r : Places) (n : ℕ) (e : Range × List ℕ) (t : Places) → e .0 .least ≤ e .0 .greatest → Onward r n e t → Before (r .least) (r .greatest) → Before (t .least) (t .greatest)
+pub onward-before : (r : Places) (n : ℕ) (e : Range × List ℕ) (t : Places) → e .0 .least ≤ e .0 .greatest → Onward r n e t → Before (r .least) (r .greatest) → Before (t .least) (t .greatest)
 onward-before r n e t l w h =
     subst (λ (u : Places). Before (u .least) (u .greatest)) (w .is)
     (item-before (r .least) (r .greatest) n (w .a) (w .b) (e .0 .least) (e .0 .greatest) h (w .least-zeros) (w .greatest-zeros) l)

@@ -36,26 +36,26 @@ pub enum Ranged {
 }
 
 // The zeros before an item, at the least length and at the greatest, or the number of a refusal.
-pub enum Zeros {
+enum Zeros {
     Refused(u8),
     Bytes(u64, u64),
 }
 
 // The bytes of a field, with the least text and with the greatest, and the offset of the pairs left; or the number of a refusal.
-pub enum Extent {
+enum Extent {
     Refused(u8),
     Bytes(u64, u64, usize),
 }
 
 // Between items: the state with the greatest length, the least length, and the offset of the pairs left.
-pub struct Place {
-    pub greatest: State,
-    pub least: u64,
-    pub at: usize,
+struct Place {
+    greatest: State,
+    least: u64,
+    at: usize,
 }
 
 // The place after an item, or the number of a refusal.
-pub enum Moved {
+enum Moved {
     Refused(u8),
     Place(Place),
 }
