@@ -10,14 +10,14 @@ ghost use Rattle.align.specs.Amounts.{amount_of, state_of, SameTo63};
 use definition::{Field, Offset, Setting, State};
 
 // A number of bytes, or the number of a refusal.
-#[derive(Drop)]
+#[derive(Clone, Copy)]
 pub enum Amount {
     Refused(u8),
     Bytes(u64),
 }
 
 // The state after an item, or the number of a refusal.
-#[derive(Drop)]
+#[derive(Clone, Copy)]
 pub enum Next {
     Refused(u8),
     State(State),

@@ -4,7 +4,7 @@ ghost use Rattle.calendar.specs.Examples.{Examples};
 ghost use Rattle.calendar.specs.Premises.{Needed};
 
 // Months and days count from 1.
-#[derive(Drop)]
+#[derive(Clone, Copy)]
 pub struct Date {
     pub year: u64,
     pub month: u64,

@@ -10,14 +10,14 @@ use calendar::Date;
 use words::extent;
 
 // A day number, or the number of a refusal.
-#[derive(Drop)]
+#[derive(Clone, Copy)]
 pub enum Day {
     Refused(u8),
     Number(u64),
 }
 
 // A date, or the number of a refusal.
-#[derive(Drop)]
+#[derive(Clone, Copy)]
 pub enum Dated {
     Refused(u8),
     Date(Date),

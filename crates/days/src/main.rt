@@ -14,7 +14,7 @@ use std::num::{wrapping_add_u64, wrapping_sub_u64};
 use words::to_signed;
 
 // What a digest is over: the answers of a call, in a year or at the edges.
-#[derive(Drop)]
+#[derive(Clone, Copy)]
 enum Part {
     Dates,
     Days,

@@ -12,7 +12,7 @@ use single::from_single;
 use words::to_signed;
 
 // A value that is read: an integer, a float by its 64 bits, or a text by its offset in the data and its length.
-#[derive(Drop)]
+#[derive(Clone, Copy)]
 pub enum Reading {
     Integer(i64),
     Float(u64),
@@ -20,7 +20,7 @@ pub enum Reading {
 }
 
 // What a field's bytes give and how many they are, or the number of a refusal.
-#[derive(Drop)]
+#[derive(Clone, Copy)]
 pub enum Decoded {
     Refused(u8),
     Read(Reading, u64),

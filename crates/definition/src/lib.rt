@@ -1,7 +1,7 @@
 // The types that the definitions and the code share, and the tags of the value list. The definitions of document 01 are in specs/.
 
 // Which values a number option takes, and what it makes of them.
-#[derive(Drop)]
+#[derive(Clone, Copy)]
 pub enum Kind {
     // b h
     SmallSigned,
@@ -24,7 +24,7 @@ pub enum Kind {
 }
 
 // What takes a value: a number of a kind in so many bytes, c, z, and s with the size of its length.
-#[derive(Drop)]
+#[derive(Clone, Copy)]
 pub enum Field {
     Number(Kind, u64),
     Chars(u64),
@@ -33,14 +33,14 @@ pub enum Field {
 }
 
 // What changes the byte order (true: big) or the alignment limit.
-#[derive(Drop)]
+#[derive(Clone, Copy)]
 pub enum Setting {
     Order(bool),
     Limit(u64),
 }
 
 // What an item does. Pad(n, k) aligns by n and adds k zeros: x is Pad(1, 1), and X is Pad(natural, 0).
-#[derive(Drop)]
+#[derive(Clone, Copy)]
 pub enum Op {
     Blank,
     Set(Setting),
@@ -49,7 +49,7 @@ pub enum Op {
 }
 
 // The state between items: byte order, alignment limit and length so far.
-#[derive(Drop)]
+#[derive(Clone, Copy)]
 pub struct State {
     pub big: bool,
     pub limit: u64,
@@ -57,15 +57,15 @@ pub struct State {
 }
 
 // A place in the data, counted from 0.
-#[derive(Drop)]
+#[derive(Clone, Copy)]
 pub struct Offset(pub u64);
 
 // A place in the data, counted from 1.
-#[derive(Drop)]
+#[derive(Clone, Copy)]
 pub struct Position(pub u64);
 
 // What continued writing answers: the next state, and how many bytes were written, values used and items run.
-#[derive(Drop)]
+#[derive(Clone, Copy)]
 pub struct Continued {
     pub next: State,
     pub written: u64,
@@ -74,7 +74,7 @@ pub struct Continued {
 }
 
 // What reading answers: the length of the value list, and the position after the last byte read.
-#[derive(Drop)]
+#[derive(Clone, Copy)]
 pub struct Unpacked {
     pub length: u64,
     pub next: Position,

@@ -14,14 +14,14 @@ use definition::{Field, Kind, Offset, Op, State};
 use position::{further, left};
 
 // The offset after some bytes, or the number of a refusal.
-#[derive(Drop)]
+#[derive(Clone, Copy)]
 pub enum Skipped {
     Refused(u8),
     To(Offset),
 }
 
 // What an item does, or the number of a refusal.
-#[derive(Drop)]
+#[derive(Clone, Copy)]
 pub enum Fetched {
     Refused(u8),
     // The next state, and no value.

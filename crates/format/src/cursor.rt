@@ -13,20 +13,20 @@ use options::{
 };
 
 // A place in a format.
-#[derive(Drop)]
+#[derive(Clone, Copy)]
 pub struct Cursor {
     pub at: usize,
 }
 
 // An item: the entry of its byte, and its operand.
-#[derive(Drop)]
+#[derive(Clone, Copy)]
 pub struct Item {
     pub entry: u8,
     pub operand: u64,
 }
 
 // The end of the format, the number of a refusal, or an item and the cursor after it.
-#[derive(Drop)]
+#[derive(Clone, Copy)]
 pub enum Next {
     End,
     Refused(u8),

@@ -8,7 +8,7 @@ use definition::{Op, State};
 use format::cursor::{Cursor, Next};
 
 // Where the first item stands that is neither a setting nor a blank, and the state there.
-#[derive(Drop)]
+#[derive(Clone, Copy)]
 pub struct Front {
     pub at: usize,
     pub state: State,

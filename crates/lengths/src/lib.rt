@@ -4,7 +4,7 @@ ghost use Rattle.lengths.specs.Examples.{Examples};
 ghost use Rattle.lengths.specs.Premises.{Needed};
 
 // Of a text, or of a record.
-#[derive(Drop)]
+#[derive(Clone, Copy)]
 pub struct Range {
     pub least: u64,
     pub greatest: u64,

@@ -8,14 +8,14 @@ ghost use Rattle.load.specs.Numbers.{unsigned_of, unsigned_at, signed_of, signed
 use words::{place, sign_byte, to_signed};
 
 // An integer that is not negative, or that it doesn't fit 64 bits.
-#[derive(Drop)]
+#[derive(Clone, Copy)]
 pub enum Unsigned {
     Fits(u64),
     TooWide,
 }
 
 // An integer, or that it doesn't fit 64 bits.
-#[derive(Drop)]
+#[derive(Clone, Copy)]
 pub enum Signed {
     Fits(i64),
     TooWide,

@@ -15,7 +15,7 @@ use format::cursor::{Cursor, Next};
 use options::table;
 
 // The number of a refusal, or a size.
-#[derive(Drop)]
+#[derive(Clone, Copy)]
 pub enum Measured {
     Refused(u8),
     Size(u64),

@@ -11,14 +11,14 @@ use single::nearest;
 use words::extent;
 
 // An integer, or none.
-#[derive(Drop)]
+#[derive(Clone, Copy)]
 pub enum Found {
     Integer(i64),
     Nothing,
 }
 
 // A number by its 64 bits, or none.
-#[derive(Drop)]
+#[derive(Clone, Copy)]
 pub enum Number {
     Bits(u64),
     Nothing,

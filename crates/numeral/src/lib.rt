@@ -4,7 +4,7 @@ ghost use Rattle.definition.specs.Items.{digits, value, numeral_of};
 ghost use Rattle.numeral.specs.Numerals.{digit_first, digit_on, read_on, scan_by, scanned, short_of};
 
 // What stands at a place of a numeral: no digit, one that makes 2^64 or more, or one and the number so far.
-#[derive(Drop)]
+#[derive(Clone, Copy)]
 pub enum Digit {
     Stop,
     TooLarge,
@@ -12,7 +12,7 @@ pub enum Digit {
 }
 
 // A numeral: none, one of 2^64 or more, or its value and the place after its digits.
-#[derive(Drop)]
+#[derive(Clone, Copy)]
 pub enum Scan {
     Missing,
     TooLarge,
@@ -20,7 +20,7 @@ pub enum Scan {
 }
 
 // What a numeral shows at once: that there is none, that it is one digit of 1 to 9, or neither.
-#[derive(Drop)]
+#[derive(Clone, Copy)]
 pub enum Short {
     Missing,
     Digit(u64),

@@ -15,14 +15,14 @@ use options::{
 };
 
 // A refusal, or the operand and how many bytes the option takes.
-#[derive(Drop)]
+#[derive(Clone, Copy)]
 pub enum Operand {
     Refused(u8),
     Of(u64, usize),
 }
 
 // What X takes: a refusal; the alignment and how many bytes; or an option, by its entry, whose size with its numeral is the alignment.
-#[derive(Drop)]
+#[derive(Clone, Copy)]
 pub enum Behind {
     Refused(u8),
     By(u64, usize),

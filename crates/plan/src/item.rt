@@ -21,7 +21,7 @@ use values::{Value, field_at};
 use word::{Word, word_of};
 
 // What an item does.
-#[derive(Drop)]
+#[derive(Clone, Copy)]
 pub enum Plan {
     Refused(u8),
     // A blank: nothing.

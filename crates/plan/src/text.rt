@@ -8,7 +8,7 @@ ghost use Rattle.plan.specs.Texts.{TextOf, TextRead};
 use values::{Field, Value, field_at};
 
 // The number of a refusal, or a text: where it starts in the list, its length, and where the next field starts.
-#[derive(Drop)]
+#[derive(Clone, Copy)]
 pub enum Text {
     Refused(u8),
     At(usize, usize, usize),

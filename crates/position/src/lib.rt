@@ -7,7 +7,7 @@ use definition::{Offset, Position};
 use words::extent;
 
 // What a start position gives: the offset, unless it lies outside the data.
-#[derive(Drop)]
+#[derive(Clone, Copy)]
 pub enum Started {
     At(Offset),
     Outside,

@@ -15,28 +15,28 @@ use load::get_word;
 use options::table;
 
 // The number of a refusal, or the two lengths.
-#[derive(Drop)]
+#[derive(Clone, Copy)]
 pub enum Ranged {
     Refused(u8),
     Range(Range),
 }
 
 // The zeros before an item, at the least length and at the greatest, or the number of a refusal.
-#[derive(Drop)]
+#[derive(Clone, Copy)]
 enum Zeros {
     Refused(u8),
     Bytes(u64, u64),
 }
 
 // The bytes of a field, with the least text and with the greatest, and the offset of the pairs left; or the number of a refusal.
-#[derive(Drop)]
+#[derive(Clone, Copy)]
 enum Extent {
     Refused(u8),
     Bytes(u64, u64, usize),
 }
 
 // Between items: the state with the greatest length, the least length, and the offset of the pairs left.
-#[derive(Drop)]
+#[derive(Clone, Copy)]
 struct Place {
     greatest: State,
     least: u64,
@@ -44,7 +44,7 @@ struct Place {
 }
 
 // The place after an item, or the number of a refusal.
-#[derive(Drop)]
+#[derive(Clone, Copy)]
 enum Moved {
     Refused(u8),
     Place(Place),

@@ -11,7 +11,7 @@ use position::{Started, offset_of, position_of};
 use read_pass::{Total, pass};
 
 // The number of a refusal, or the length of the value list and the next position.
-#[derive(Drop)]
+#[derive(Clone, Copy)]
 pub enum Unpacking {
     Refused(u8),
     Unpacked(Unpacked),

@@ -17,7 +17,7 @@ use format::cursor::{Cursor, Next};
 
 // The number of a refusal, or the length of the value list and the offset after the last byte read. A length above 2^63-1
 // says only that the list's is above it too.
-#[derive(Drop)]
+#[derive(Clone, Copy)]
 pub enum Total {
     Refused(u8),
     Of(u64, Offset),

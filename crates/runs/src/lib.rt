@@ -7,7 +7,7 @@ ghost use Rattle.runs.specs.Entries.{EntryRead};
 use load::get_word;
 
 // What stands at an offset of a run: its end; a length that does not fit; or a list, from its first byte to behind its last.
-#[derive(Drop)]
+#[derive(Clone, Copy)]
 pub enum Entry {
     End,
     Malformed,

@@ -17,7 +17,7 @@ use values::is_list;
 use write_pass::{Total, pass};
 
 // What packing a tray answers: a refusal's number and its place, or the tray's length.
-#[derive(Drop)]
+#[derive(Clone, Copy)]
 pub enum Tray {
     Refused(u8, u64),
     Length(u64),

@@ -12,7 +12,7 @@ use load::get_word;
 use words::to_signed;
 
 // A value of a list.
-#[derive(Drop)]
+#[derive(Clone, Copy)]
 pub enum Value {
     Integer(i64),
     // A float that is no NaN.
@@ -25,7 +25,7 @@ pub enum Value {
 }
 
 // What stands at an offset of a list: a value, with the offset of the next field; or the end.
-#[derive(Drop)]
+#[derive(Clone, Copy)]
 pub enum Field {
     Found(Value, usize),
     End,
@@ -47,7 +47,7 @@ fn number_at(list: &[u8], at: usize, n: usize) -> u64
 }
 
 // The length of a field's content, or a field that is malformed.
-#[derive(Drop)]
+#[derive(Clone, Copy)]
 enum Content {
     Length(usize),
     Malformed,

@@ -6,7 +6,7 @@ ghost use Rattle.values.specs.Meaning.{LengthRead, FieldRead, is_accepted};
 
 use crate::{Content, Field, read_field, read_length};
 
-#[derive(Drop)]
+#[derive(Clone, Copy)]
 pub struct Reader<'a> {
     pub list: &'a [u8],
     pub at: usize,

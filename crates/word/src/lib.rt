@@ -15,7 +15,7 @@ use values::Value;
 use words::{extent, to_word};
 
 // The number of a refusal, or 64 bits: those of an integer, or a pattern.
-#[derive(Drop)]
+#[derive(Clone, Copy)]
 pub enum Word {
     Refused(u8),
     Bits(u64),

@@ -34,7 +34,7 @@ pub fn pack_continued(state: State, format: &[u8], list: &[u8], out: &mut [u8]) 
 }
 
 // What plain writing answers: the length of the record, or the number of a refusal.
-#[derive(Drop)]
+#[derive(Clone, Copy)]
 pub enum Packed {
     Refused(u8),
     Length(u64),

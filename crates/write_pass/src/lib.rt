@@ -15,14 +15,14 @@ use format::cursor::{Cursor, Next};
 use plan::item::{Plan, plan_of};
 
 // What continued writing answers, or the number of a refusal.
-#[derive(Drop)]
+#[derive(Clone, Copy)]
 pub enum Total {
     Refused(u8),
     Of(Continued),
 }
 
 // How far a pass has come: the state, where the list's next field starts, the values used and the items run.
-#[derive(Drop)]
+#[derive(Clone, Copy)]
 pub struct Progress {
     pub state: State,
     pub at: usize,
@@ -32,7 +32,7 @@ pub struct Progress {
 
 // What an item leads to: the number of a refusal, nothing, or the next progress. A blank has a case of its own, which leaves
 // the loop's variables where they are (docs/COST.md has what that saves).
-#[derive(Drop)]
+#[derive(Clone, Copy)]
 pub enum Step {
     Refused(u8),
     Skip,
