@@ -1,0 +1,13 @@
+-- A digit stands inside the text, and its byte is at least 48.
+use native.Mathlib.Omega.{arith}
+use borrow.Author.Rules.{rules}
+use Rattle.numeral.proofs.Digits.{first_inside, first_byte}
+use Rattle.numeral.proofs.digit_value.Goals as goal
+
+pub bounds-text-at : goal.bounds-text-at
+bounds-text-at c =
+    first_inside _ _ c.requires
+
+pub overflow_sub-result : goal.overflow_sub-result
+overflow_sub-result c =
+    let a = c.args in omega (arith, first_byte a.text.now a.at c.requires)

@@ -1,0 +1,40 @@
+-- Each arm is one case of the definition.
+use borrow.Author.Tests.{ne_eqb}
+use Rattle.options.specs.Packed.{kind_at}
+use Rattle.options.proofs.kind_of.Goals as goal
+
+pub returns-in-0 : goal.returns-in-0
+unfolding kind_at
+returns-in-0 c =
+    rw c.in-0.is
+
+pub returns-in-1 : goal.returns-in-1
+unfolding kind_at
+returns-in-1 c =
+    rw c.in-1.is
+
+pub returns-in-2 : goal.returns-in-2
+unfolding kind_at
+returns-in-2 c =
+    rw c.in-2.is
+
+pub returns-in-3 : goal.returns-in-3
+unfolding kind_at
+returns-in-3 c =
+    rw c.in-3.is
+
+pub returns-in-4 : goal.returns-in-4
+unfolding kind_at
+returns-in-4 c =
+    rw c.in-4.is
+
+pub returns-in-5 : goal.returns-in-5
+unfolding kind_at
+returns-in-5 c =
+    rw c.in-5.is
+
+pub returns-in_default : goal.returns-in_default
+unfolding kind_at
+returns-in_default c =
+    let r = c.in_default.rest in
+    rw (ne_eqb _ _ r.0.0.0.0.0.1, ne_eqb _ _ r.0.0.0.0.1, ne_eqb _ _ r.0.0.0.1, ne_eqb _ _ r.0.0.1, ne_eqb _ _ r.0.1, ne_eqb _ _ r.1)

@@ -1,0 +1,20 @@
+-- `pass` meets its contract. The invariant: the values that were read so far, whose list has the total as its length and, with `put`, stands
+-- at the front of the buffer. The measure is what is left of the format.
+use Prim.Native.Nat.{◌^◌, ◌-◌, ◌<◌, ◌≤◌}
+use native.Mathlib.Omega.{arith}
+use mathlib.Core.Path.{◌≡◌, sym, ◌∙◌}
+use mathlib.Core.Logic.{⊎_elim}
+use mathlib.Core.Option.{some}
+use lib.ListN.{length, drop}
+use Rattle.definition.specs.Answers.{accepted}
+use Rattle.format.specs.Steps.{next_at}
+use Rattle.options.specs.Packed.{table_at}
+use Rattle.format.proofs.Walking.{valid, ahead}
+use Rattle.read_pass.proofs.Passing.{Passing, passing_none, passing_length, passing_end, passing_refusal, passing_refused, passing_set, passing_short, passing_room, passing_put, passing_kept, passing_more}
+use Rattle.read_pass.proofs.pass.Given as goal
+
+abbrev pub invariant-loop-k : goal.invariant-loop-k
+invariant-loop-k l = Passing (table_at l.table) l.format l.data l.initial.s l.initial.list l.put l.c.at l.s l.list l.total
+
+abbrev pub decreases-loop-k : goal.decreases-loop-k
+decreases-loop-k l = length l.format - l.c.at

@@ -1,0 +1,13 @@
+-- The invariant: the records so far stand at the buffer's front, and the others fit. The measure is what is left of the run.
+use Prim.Native.Nat.{◌-◌, ◌^◌, ◌<◌}
+use native.Mathlib.Omega.{arith}
+use lib.ListN.{length}
+use Rattle.runs.specs.Entries.{Stands}
+use Rattle.tray.proofs.Walking.{Putting, putting_none, putting_length, putting_inside, putting_end, not_damaged, putting_room, putting_fits, putting_on}
+use Rattle.tray.proofs.put_tray.Given as goal
+
+abbrev pub invariant-loop-from : goal.invariant-loop-from
+invariant-loop-from l = Putting l.state l.format l.run l.initial.out l.at l.end l.out
+
+abbrev pub decreases-loop-from : goal.decreases-loop-from
+decreases-loop-from l = length l.run - l.at

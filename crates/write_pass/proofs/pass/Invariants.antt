@@ -1,0 +1,20 @@
+-- `pass` meets its contract. The invariant: what was written so far, with the rest of the items, makes the whole writing, and
+-- with `put` its bytes stand at the front of the buffer. The measure is what is left of the format.
+use Prim.Native.Nat.{◌-◌}
+use mathlib.Core.Path.{◌≡◌, refl, sym, ap, ◌∙◌}
+use mathlib.Core.Option.{some}
+use native.Mathlib.Omega.{arith}
+use lib.ListN.{length, drop}
+use Rattle.definition.specs.Answers.{accepted}
+use Rattle.definition.specs.declared.Op.{Op}
+use Rattle.options.specs.Packed.{table_at}
+use Rattle.format.specs.Steps.{next_at, next_of}
+use Rattle.write_pass.proofs.Walking.{Passing, passing_none, passing_length, passing_end, passing_refusal, passing_refused, passing_fits, passing_on, item_ahead, item_valid}
+use borrow.Author.Rules.{rules}
+use Rattle.write_pass.proofs.pass.Given as goal
+
+abbrev pub invariant-loop-k : goal.invariant-loop-k
+invariant-loop-k l = Passing (table_at l.table) l.format l.list l.initial.p.state l.put l.initial.out l.c.at l.p l.out × (length l.out ≡ length l.initial.out)
+
+abbrev pub decreases-loop-k : goal.decreases-loop-k
+decreases-loop-k l = length l.format - l.c.at
