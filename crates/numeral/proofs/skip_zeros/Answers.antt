@@ -11,22 +11,6 @@ pub loop-i-init : goal.loop-i-init
 loop-i-init c =
     (refl, zero-add _)
 
-pub bounds-text-i : goal.bounds-text-i
-bounds-text-i c =
-    omega arith
-
-pub returns-then-text-i-ne48 : goal.returns-then-text-i-ne48
-returns-then-text-i-ne48 c =
-    c.loop-i.invariant
-
-pub overflow_add-i : goal.overflow_add-i
-overflow_add-i c =
-    omega arith
-
-pub loop-i-smaller : goal.loop-i-smaller
-loop-i-smaller c =
-    omega arith
-
 pub loop-i-preserved : goal.loop-i-preserved
 loop-i-preserved c =
     let s = c.args.text.now in
@@ -35,6 +19,3 @@ loop-i-preserved c =
     let z = zero_passed s l.i h c.if-text-i-ne48.false in
     (z.0 ∙ l.invariant.0, z.1 ∙ l.invariant.1)
 
-pub returns : goal.returns
-returns c =
-    c.loop-i.invariant
