@@ -1,5 +1,5 @@
 -- The next digit decides: stop, too large, or the digits after it, with one byte less left.
-use Rattle.std.proofs.Common.{◌≡◌, ℕ, ◌+◌, ◌-◌, ◌^◌, ◌<◌, List, length, take, drop, sym, ap, ◌∙◌, arith}
+use Rattle.std.proofs.Common.{◌≡◌, ℕ, ◌+◌, ◌-◌, ◌^◌, ◌<◌, List, take, drop, sym, ap, ◌∙◌, arith}
 use Rattle.definition.specs.Items.{digits}
 use Rattle.numeral.specs.Numerals.{digit_on, read_on}
 use Rattle.numeral.specs.declared.Digit.{Digit}

@@ -1,7 +1,6 @@
 -- The zeros at the front count for nothing; past them the digits are read with all bytes left.
 use mathlib.Core.Path.{◌≡◌, sym, ◌∙◌}
 use native.Mathlib.Omega.{arith}
-use borrow.Author.Rules.{rules}
 use Rattle.numeral.specs.Numerals.{scan_by}
 use Rattle.numeral.proofs.Digits.{digits_length, scan_of, scan_none, scan_rest}
 use Rattle.numeral.proofs.read.Goals as goal

@@ -1,9 +1,8 @@
-use Prim.Native.Nat.{◌+◌, ◌-◌, ◌<◌}
-use mathlib.Core.Path.{◌≡◌, refl, ◌∙◌}
+use Prim.Native.Nat.{◌<◌}
+use mathlib.Core.Path.{refl, ◌∙◌}
 use native.Mathlib.Nat.{zero-add}
 use native.Mathlib.Omega.{arith}
-use lib.ListN.{length, drop}
-use Rattle.definition.specs.Items.{digits, value}
+use lib.ListN.{length}
 use Rattle.numeral.proofs.Digits.{zero_passed}
 use Rattle.numeral.proofs.skip_zeros.Goals as goal
 
@@ -18,4 +17,3 @@ loop-i-preserved c =
     let h : l.i < length s = omega arith in
     let z = zero_passed s l.i h c.if-text-i-ne48.false in
     (z.0 ∙ l.invariant.0, z.1 ∙ l.invariant.1)
-
