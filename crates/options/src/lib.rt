@@ -62,6 +62,7 @@ pub fn entry(table: &[u8; 256], b: u8) -> u8
 }
 
 // The kind of a number of fixed size.
+#[tactic(auto, unfolding(crate::specs::Packed::kind_at))]
 pub fn kind_of(e: u8) -> Kind
     ensures { result ≡ kind_at e }
 {

@@ -1,3 +1,4 @@
+-- A turn has a digit, so it stays inside the text; past the last one there is none.
 use mathlib.Core.Path.{◌≡◌, refl, sym, ◌∙◌}
 use mathlib.Core.Bool.{true}
 use native.Mathlib.Omega.{arith}
