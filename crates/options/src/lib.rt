@@ -1,4 +1,6 @@
 // The option table: a number for each byte value, which packs its class, its size and its numeral rule.
+#![tactic(auto)]
+
 ghost use Rattle.std.specs.Prelude.{◌≡◌};
 ghost use Rattle.definition.specs.Options.{options};
 ghost use Rattle.options.specs.Packed.{entry_at, table_at, kind_at, size_at};
