@@ -1,5 +1,5 @@
 -- `restored` meets its contract: half of 256 ^ size is added and, wrapping, subtracted.
-use Rattle.std.proofs.Common.{◌≡◌, ◌^◌, ◌<◌, ◌≤◌, ◌∙◌, arith, lit<, to_z-of_z, w64, rules}
+use Rattle.std.proofs.Common.{◌≡◌, ◌^◌, ◌<◌, ◌≤◌, ◌∙◌, arith, lit<, to_z-of_z, w64}
 use native.Mathlib.Nat.{pow-le-pow_right}
 use Rattle.definition.specs.Bytes.{low}
 use Rattle.laws.proofs.Bytes.{pow_pos}
