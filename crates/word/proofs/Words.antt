@@ -38,7 +38,7 @@ fill_sign (negsuc n) f = ap (λ (t : Bool). cond t 0 255) (le-ltb (2 ^ 64 - 1 - 
 
 pub says_integer : (n b : ℕ) (z : ℤ) {x : Checked ℤ} → mag z < 2 ^ 63 → b ≡ bits (to_z w64 (of_z w64 z)) → x ≡ accepted z → Says n x (Bits b)
 says_integer n b z h e i o =
-    let same : to_z w64 (of_z w64 z) ≡ z = to_z-of_z (record { sfits = h }) in
+    let same : to_z w64 (of_z w64 z) ≡ z = to_z-of_z {w = w64} (record { sfits = h }) in
     rw i (ap (λ (c : ℕ). accepted (laid o n c (fill_of c))) (e ∙ ap bits same) ∙ ap (λ (c : ℕ). accepted (laid o n (bits z) c)) (fill_sign z (record { sfits = h })))
 
 -- up to eight bytes nothing is filled
@@ -91,7 +91,7 @@ unsigned_narrow n z e f h l i = rw i (ap (ltb (extent z)) (shifted (8 * n) (omeg
 -- ---- an integer z that was bound from an enum, and passes a test; t is the test as the code makes it
 pub says_ranged : (inside : ℤ → Bool) (n : ℕ) (z : ℤ) {t : Bool} {x : Checked ℤ} (r : Word) → mag z < 2 ^ 63 → x ≡ ranged_or (inside z) z → t ≡ inside (to_z w64 (of_z w64 z)) → Says n (ranged_or t (to_z w64 (of_z w64 z))) r → Says n x r
 says_ranged inside n z r h i e s =
-    let same : to_z w64 (of_z w64 z) ≡ z = to_z-of_z (record { sfits = h }) in
+    let same : to_z w64 (of_z w64 z) ≡ z = to_z-of_z {w = w64} (record { sfits = h }) in
     says_as n r (rw (e, same) at s) i
 
 -- ---- the kinds, by what the value w is
