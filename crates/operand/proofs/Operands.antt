@@ -33,9 +33,9 @@ room t (Operand.Of n i) e s q h = omega (arith, operand_count t e s n i (sym q))
 
 -- ---- X, and a byte that is no option
 -- what the answer y says of s, which follows X
-pub behind_is : (t : Table) (e : ℕ) → 248 ≤ e → e < 252 → (s : List ℕ) (x y : Behind) → x ≡ y → behind_of t x s ≡ natural_at t s → behind_of t y s ≡ operand_at t (entry_at e) s
+pub behind_is : (t : Table) (e : ℕ) → 248 ≤ e → e < 252 → (s : List ℕ) (y : Behind) → behind_of t y s ≡ natural_at t s → behind_of t y s ≡ operand_at t (entry_at e) s
 unfolding operand_at natural_at
-behind_is t e l h s x y q p = rw (at_align e l h) (rw q at p)
+behind_is t e l h s y p = rw (at_align e l h) p
 
 pub operand_none : (t : Table) (e : ℕ) → 252 ≤ e → (s : List ℕ) → refused 1 ≡ operand_at t (entry_at e) s
 unfolding operand_at

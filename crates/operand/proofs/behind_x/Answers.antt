@@ -28,7 +28,7 @@ returns-then-e-eq-SINGLE c =
 
 pub returns-then-e-lt-FIXED_END : goal.returns-then-e-lt-FIXED_END
 returns-then-e-lt-FIXED_END c =
-    record { same = rw c.type_size.ensures (fixed _ _ c.if-e-lt-FIXED_END.true c.if-e-eq-SINGLE.false) ∙ behind (goal.at.returns-then-e-lt-FIXED_END c).After-entry-e; numeral = tt }
+    record { same = rw c.size_of.ensures (fixed _ _ c.if-e-lt-FIXED_END.true c.if-e-eq-SINGLE.false) ∙ behind (goal.at.returns-then-e-lt-FIXED_END c).After-entry-e; numeral = tt }
 
 pub returns-then-e-lt-PLAIN_END : goal.returns-then-e-lt-PLAIN_END
 returns-then-e-lt-PLAIN_END c =

@@ -5,7 +5,7 @@ use Rattle.operand.proofs.without_numeral.Goals as goal
 
 pub returns-then-e-lt-COUNTED_END : goal.returns-then-e-lt-COUNTED_END
 returns-then-e-lt-COUNTED_END c =
-    rw (sized_by _ c.requires.low c.if-e-lt-COUNTED_END.true _, c.type_size.ensures)
+    rw (sized_by _ c.requires.low c.if-e-lt-COUNTED_END.true _, c.size_of.ensures)
 
 pub returns-then-e-lt-CHARS_END : goal.returns-then-e-lt-CHARS_END
 returns-then-e-lt-CHARS_END c =
