@@ -1,5 +1,5 @@
 -- `get_signed` meets its contract: the integer of the low bytes, where those above are filled with its sign.
-use Rattle.std.proofs.Common.{◌∙◌, to_z-of_z, w64, rules}
+use Rattle.std.proofs.Common.{◌∙◌, to_z-of_z, w64}
 use Rattle.load.proofs.Gathering.{Inside, signed_fits, signed_too_wide}
 use borrow.Author.Rules.{sfits_of}
 use Rattle.load.proofs.get_signed.Goals as goal

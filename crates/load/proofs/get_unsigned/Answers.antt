@@ -1,6 +1,5 @@
 -- `get_unsigned` meets its contract: the number of the low bytes, where those above are zeros.
 use Rattle.load.proofs.Gathering.{Inside, unsigned_fits, unsigned_too_wide}
-use Rattle.std.proofs.Common.{rules}
 use Rattle.load.proofs.get_unsigned.Goals as goal
 use Rattle.load.proofs.get_unsigned.Goals.{Start}
 
