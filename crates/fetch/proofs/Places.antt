@@ -7,8 +7,6 @@ use mathlib.Core.List.{List, [], ◌∷◌}
 use lib.Dec.{T, leb, lit≤}
 use lib.ListN.{length, take, drop, length-drop}
 use lib.Seq.{drop-drop}
-use types.Run.{OneOf, miss}
-use denote.Enum.Declared.{tag_of}
 use borrow.Author.Tests.{le-leb, lt-leb, leb-true, leb-false}
 use borrow.Table.Steps.{cases}
 use Rattle.definition.specs.Answers.{Checked, refused, accepted, ◌>>=◌}
@@ -26,7 +24,6 @@ use Rattle.definition.specs.declared.Setting.{Setting}
 use Rattle.definition.specs.declared.Setting.TheVariants as Setting
 use Rattle.definition.specs.declared.Op.{Op}
 use Rattle.definition.specs.declared.Op.TheVariants as Op
-use Rattle.definition.specs.contracts.Field.{the_type}
 use Rattle.definition.specs.Fields.{decode}
 use Rattle.decode.specs.Readings.{Within, value_of, is_unaligned, decoded_of, DecodedInside, Decodes}
 use Rattle.fetch.specs.Fetching.{Stands, place_in, skipped_from, Skips, after_of, Countable, fetched_of, FetchedStands, Fetches}
@@ -135,13 +132,6 @@ module _ {d : List ℕ} {s : State} {n k : ℕ} where
   pad_op h p e = rw e (record { says = rw (← p.says); stands = (p.inside, h) })
 
 -- ---- by the variant
--- by the tags of c and z
-pub unaligned_tag : (f : Field) → OneOf (1 ∷ 2 ∷ []) (tag_of the_type f) → T (is_unaligned f)
-unaligned_tag (Field.Number k n) h = absurd (miss (1 ∷ 2 ∷ []) 0 tt h)
-unaligned_tag (Field.Chars n) h = tt
-unaligned_tag Field.ZeroEnded h = tt
-unaligned_tag (Field.Counted n) h = absurd (miss (1 ∷ 2 ∷ []) 3 tt h)
-
 -- c and z align by 1
 pub unaligned_natural : (f : Field) → T (is_unaligned f) → 1 ≤ natural f
 unaligned_natural (Field.Number k n) h = absurd h
@@ -150,8 +140,8 @@ unaligned_natural Field.ZeroEnded h = lit≤ tt
 unaligned_natural (Field.Counted n) h = absurd h
 
 -- what is not c
-pub zero_ended_left : (f : Field) → T (is_unaligned f) → OneOf (0 ∷ 2 ∷ 3 ∷ []) (tag_of the_type f) → f ≡ Field.ZeroEnded
+pub zero_ended_left : (f : Field) → T (is_unaligned f) → ((n : ℕ) → f ≡ Field.Chars n → ⊥) → f ≡ Field.ZeroEnded
 zero_ended_left (Field.Number k n) h o = absurd h
-zero_ended_left (Field.Chars n) h o = absurd (miss (0 ∷ 2 ∷ 3 ∷ []) 1 tt o)
+zero_ended_left (Field.Chars n) h o = absurd (o n refl)
 zero_ended_left Field.ZeroEnded h o = refl
 zero_ended_left (Field.Counted n) h o = absurd h
