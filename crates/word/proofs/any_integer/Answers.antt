@@ -1,6 +1,5 @@
 -- The integer that was found, or 12.
-use mathlib.Core.Path.{sym, ap, ◌∙◌}
-use Rattle.numbers.specs.Meaning.{integer_found}
+use mathlib.Core.Path.{sym}
 use Rattle.word.proofs.Words.{says_integer, says_refused, of_integer, of_none}
 use native.Mathlib.Omega.{arith}
 use Rattle.word.proofs.any_integer.Goals as goal

@@ -1,6 +1,5 @@
 -- The integer that was found, or a float's bits.
 use mathlib.Core.Path.{sym, ap, ◌∙◌}
-use Rattle.numbers.specs.Meaning.{integer_found}
 use Rattle.word.specs.Words.{pattern_or}
 use Rattle.word.proofs.Words.{says_integer, says_as, of_integer, of_none}
 use native.Mathlib.Omega.{arith}

@@ -2,7 +2,6 @@
 use mathlib.Core.Path.{sym, ap, ◌∙◌}
 use lib.Dec.{lit≤}
 use Rattle.definition.specs.Fields.{in_unsigned}
-use Rattle.numbers.specs.Meaning.{integer_found}
 use Rattle.word.specs.Words.{pattern_or}
 use Rattle.word.proofs.Words.{says_ranged, says_as, of_integer, lua_unsigned_pattern}
 use native.Mathlib.Omega.{arith}

@@ -3,7 +3,6 @@ use Prim.Native.Nat.{ℕ}
 use mathlib.Core.Path.{sym, ap, ◌∙◌}
 use lib.IntN.{pos}
 use Rattle.definition.specs.Answers.{accepted}
-use Rattle.numbers.specs.Meaning.{bits_found}
 use Rattle.word.proofs.Words.{says_pattern, says_refused, single_word, single_none}
 use Rattle.word.proofs.single.Goals as goal
 

@@ -1,7 +1,6 @@
 -- The integer that was found, if it is in range, or 12.
-use mathlib.Core.Path.{sym, ap, ◌∙◌}
+use mathlib.Core.Path.{sym}
 use Rattle.definition.specs.Fields.{in_unsigned}
-use Rattle.numbers.specs.Meaning.{integer_found}
 use Rattle.word.proofs.Words.{says_ranged, says_refused, of_integer, of_none}
 use native.Mathlib.Omega.{arith}
 use Rattle.word.proofs.unsigned.Goals as goal
