@@ -1,6 +1,5 @@
 -- One item: where it takes the pass, and what it puts.
-use Prim.Native.Nat.{ℕ, zero, suc, ◌+◌, ◌≤◌}
-use native.Mathlib.Nat.{add-zero}
+use Prim.Native.Nat.{ℕ, zero, suc, ◌+◌}
 use native.Mathlib.Omega.{arith}
 use mathlib.Core.Path.{◌≡◌, refl, sym, ap, ◌∙◌, subst}
 use mathlib.Core.Bool.{Bool, true, false, cond}
@@ -11,9 +10,8 @@ use Rattle.definition.specs.Answers.{Checked, refused, accepted}
 use Rattle.definition.specs.Bytes.{laid}
 use Rattle.definition.specs.Values.{Value}
 use Rattle.definition.specs.Lists.{values}
-use Rattle.definition.specs.States.{set, further}
-use Rattle.definition.specs.Writing.{Cell, pad, byte, pads, zeroed, Output, output, nothing, Place, place}
-use Rattle.definition.specs.declared.State.{State}
+use Rattle.definition.specs.States.{further}
+use Rattle.definition.specs.Writing.{pad, byte, pads, zeroed, Output, output, Place, place}
 use Rattle.definition.specs.declared.Setting.{Setting}
 use Rattle.definition.specs.declared.Op.{Op}
 use Rattle.values.specs.Meaning.{is_accepted}
@@ -22,7 +20,7 @@ use Rattle.plan.specs.Plans.{Wrote, ItemPlan, ItemAt}
 use Rattle.word.specs.Words.{fill_of}
 use Rattle.plan.specs.declared.item.Plan.{Plan}
 use Rattle.plan.specs.declared.item.Plan.TheVariants as Plan
-use Rattle.write_pass.specs.Walks.{listed, values_of, FitsAt, put_at, passed, taken, written, Moved}
+use Rattle.write_pass.specs.Walks.{listed, values_of, put_at, taken, written, Moved}
 use Rattle.write_pass.specs.declared.Progress.{Progress}
 
 pub list_known : (c : Checked (List Value)) → is_accepted c ≡ true → c ≡ accepted (listed c)
