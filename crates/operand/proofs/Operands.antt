@@ -14,7 +14,6 @@ use Rattle.options.specs.Packed.{kind_at, size_at, plain_at, entry_at}
 use Rattle.operand.specs.Operands.{operand_by, operand_with, taking, operand_at, natural_at, operand_of, RoomFor1, behind_of}
 use Rattle.operand.specs.declared.Behind.{Behind}
 use Rattle.operand.specs.declared.Operand.{Operand}
-use Rattle.operand.specs.declared.Operand.TheVariants as Operand
 use Rattle.operand.proofs.Taken.{taken_length}
 use Rattle.operand.proofs.Entries.{cut, at_fixed, at_plain, at_align, at_none, plain_all}
 

@@ -1,6 +1,6 @@
 -- Behind X an option with a numeral is asked for its own operand, with one byte less to look at.
-use Rattle.std.proofs.Common.{◌≡◌, ℕ, ◌≤◌, ◌<◌, length, drop, ap, ◌∙◌, length-drop, arith}
-use Rattle.operand.specs.Operands.{operand_of, operand_at, one_more, behind_of}
+use Rattle.std.proofs.Common.{◌≡◌, ℕ, drop, ap, ◌∙◌, length-drop, arith}
+use Rattle.operand.specs.Operands.{operand_of, operand_at, one_more}
 use Rattle.options.specs.Packed.{entry_at, table_at}
 use Rattle.operand.specs.declared.Behind.TheVariants as Behind
 use Rattle.operand.proofs.Operands.{operand_none, behind_is, room}

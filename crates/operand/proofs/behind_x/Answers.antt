@@ -1,6 +1,5 @@
 -- The entry of the byte behind X tells what X takes and aligns by.
 use mathlib.Core.Path.{◌≡◌, ◌∙◌}
-use borrow.Author.Rules.{rules}
 use lib.ListN.{get_or, drop}
 use Rattle.operand.specs.Operands.{natural_at}
 use Rattle.options.specs.Packed.{entry_at, table_at}

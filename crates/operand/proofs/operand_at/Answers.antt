@@ -1,9 +1,6 @@
 -- What the digits show at once decides with the range of the entry; all else is asked of the whole reader, which only an option with a numeral, X and no option need.
-use Prim.Native.Nat.{◌≤◌}
-use mathlib.Core.Logic.{⊎_elim}
 use mathlib.Core.Path.{◌≡◌, sym, ap, ◌∙◌, subst}
 use native.Mathlib.Omega.{arith}
-use borrow.Author.Rules.{rules}
 use lib.ListN.{drop}
 use Rattle.numeral.specs.declared.Short.{Short}
 use Rattle.numeral.specs.declared.Short.TheVariants.{Missing, Digit, Long}

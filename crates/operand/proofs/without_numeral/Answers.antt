@@ -1,5 +1,4 @@
 -- The range of the entry tells the operand that the option has by itself.
-use borrow.Author.Rules.{rules}
 use Rattle.operand.proofs.Entries.{sized_by, chars_by, limit_by}
 use Rattle.operand.proofs.without_numeral.Goals as goal
 
