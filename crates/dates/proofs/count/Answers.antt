@@ -1,5 +1,4 @@
 -- `count` meets its contract: the test is the definition's.
-use borrow.Author.Rules.{rules}
 use borrow.Author.Tests.{lt-ltb, le-ltb}
 use Rattle.dates.specs.Fourth.{no_day}
 use Rattle.dates.proofs.count.Goals as goal

@@ -1,6 +1,5 @@
 -- `date_after` meets its contract: dividing finds the year that the count lies in.
 use native.Mathlib.Omega.{arith}
-use borrow.Author.Rules.{rules}
 use Rattle.dates.proofs.Dividing.{CountOf, count_of, YearFound, year_found, date_found}
 use Rattle.dates.proofs.date_after.Goals as goal
 use Rattle.dates.proofs.date_after.Goals.{After-count-j}

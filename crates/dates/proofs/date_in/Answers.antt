@@ -1,7 +1,6 @@
 -- `date_in` meets its contract: dividing finds the month that the day lies in.
 use Prim.Native.Nat.{◌<◌}
 use native.Mathlib.Omega.{arith}
-use borrow.Author.Rules.{rules}
 use Rattle.dates.specs.Fourth.{fourth}
 use Rattle.dates.proofs.Dividing.{Found, month_at, found, in_year, short_year}
 use Rattle.dates.proofs.date_in.Goals as goal

@@ -2,7 +2,6 @@
 use Prim.Native.Nat.{◌≤◌}
 use mathlib.Core.Path.{◌≡◌, sym}
 use lib.IntN.{pos}
-use borrow.Author.Rules.{rules}
 use Rattle.dates.proofs.Signs.{from_bound, year_below, month_below, day_below}
 use Rattle.dates.proofs.day_number.Goals as goal
 use Rattle.dates.proofs.day_number.Goals.{After-extent, After-extent-2, After-extent-3}

@@ -1,5 +1,4 @@
 -- `widen` meets its contract: the tests are the definition's.
-use borrow.Author.Rules.{rules}
 use borrow.Author.Tests.{eq-eqb, ne_eqb, lt-ltb, le-ltb}
 use Rattle.dates.proofs.widen.Goals as goal
 

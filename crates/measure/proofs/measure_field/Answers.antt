@@ -9,8 +9,8 @@ measure_pad-requires c =
 
 pub returns-in-Refused : goal.returns-in-Refused
 returns-in-Refused c =
-    rw (← c.type_size.ensures, c.in-Refused.is)
+    rw (← c.size_of.ensures, c.in-Refused.is)
 
 pub returns-in-Bytes : goal.returns-in-Bytes
 returns-in-Bytes c =
-    rw (← c.type_size.ensures, c.in-Bytes.is, ← c.natural.ensures) c.measure_pad.ensures
+    rw (← c.size_of.ensures, c.in-Bytes.is, ← c.natural.ensures) c.measure_pad.ensures

@@ -1,6 +1,5 @@
 -- The entry of the byte behind X tells what X takes and aligns by.
 use mathlib.Core.Path.{◌≡◌, ◌∙◌}
-use borrow.Author.Rules.{rules}
 use lib.ListN.{get_or, drop}
 use Rattle.operand.specs.Operands.{natural_at}
 use Rattle.options.specs.Packed.{entry_at, table_at}
@@ -28,7 +27,7 @@ returns-then-e-eq-SINGLE c =
 
 pub returns-then-e-lt-FIXED_END : goal.returns-then-e-lt-FIXED_END
 returns-then-e-lt-FIXED_END c =
-    record { same = rw c.type_size.ensures (fixed _ _ c.if-e-lt-FIXED_END.true c.if-e-eq-SINGLE.false) ∙ behind (goal.at.returns-then-e-lt-FIXED_END c).After-entry-e; numeral = tt }
+    record { same = rw c.size_of.ensures (fixed _ _ c.if-e-lt-FIXED_END.true c.if-e-eq-SINGLE.false) ∙ behind (goal.at.returns-then-e-lt-FIXED_END c).After-entry-e; numeral = tt }
 
 pub returns-then-e-lt-PLAIN_END : goal.returns-then-e-lt-PLAIN_END
 returns-then-e-lt-PLAIN_END c =

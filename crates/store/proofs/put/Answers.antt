@@ -1,5 +1,4 @@
 -- `put` meets its contract: each arm is what `put_bytes` ensures, at the size that the arm has.
-use borrow.Author.Rules.{rules}
 use Rattle.store.proofs.put.Goals as goal
 
 pub returns-in-1 : goal.returns-in-1

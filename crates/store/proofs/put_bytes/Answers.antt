@@ -1,10 +1,8 @@
-use Prim.Native.Nat.{◌-◌}
 use mathlib.Core.Path.{sym, ◌∙◌}
 use native.Mathlib.Omega.{arith}
-use Rattle.definition.specs.Bytes.{laid}
 use Rattle.laws.proofs.Bytes.{length_laid}
 use Rattle.words.proofs.Placing.{laid_at}
-use Rattle.store.proofs.Pasting.{Pasted, pasted_none, pasted_more, pasted_length, pasted_all}
+use Rattle.store.proofs.Pasting.{pasted_none, pasted_more, pasted_length, pasted_all}
 use Rattle.store.proofs.put_bytes.Goals as goal
 
 pub loop-j-init : goal.loop-j-init

@@ -1,9 +1,7 @@
-use Prim.Native.Nat.{◌-◌}
 use mathlib.Core.Path.{sym}
 use native.Mathlib.Omega.{arith}
-use lib.ListN.{take, drop}
 use Rattle.laws.proofs.Bytes.{length_part, part_at}
-use Rattle.store.proofs.Pasting.{Pasted, pasted_none, pasted_more, pasted_length, pasted_all}
+use Rattle.store.proofs.Pasting.{pasted_none, pasted_more, pasted_length, pasted_all}
 use Rattle.store.proofs.put_copy.Goals as goal
 
 pub loop-j-init : goal.loop-j-init

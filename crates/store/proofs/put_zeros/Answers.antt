@@ -1,8 +1,7 @@
-use Prim.Native.Nat.{◌-◌}
 use mathlib.Core.Path.{sym}
 use native.Mathlib.Omega.{arith}
-use lib.ListN.{replicate, length-replicate, get_or-replicate}
-use Rattle.store.proofs.Pasting.{Pasted, pasted_none, pasted_more, pasted_length, pasted_all}
+use lib.ListN.{length-replicate, get_or-replicate}
+use Rattle.store.proofs.Pasting.{pasted_none, pasted_more, pasted_length, pasted_all}
 use Rattle.store.proofs.put_zeros.Goals as goal
 
 pub loop-j-init : goal.loop-j-init

@@ -2,13 +2,8 @@
 use mathlib.Core.Path.{sym, ap, ◌∙◌}
 use mir.Facts.{to_z-of_z}
 use Rattle.definition.specs.Bytes.{extent}
-use Rattle.word.proofs.Words.{unsigned_negative, unsigned_wide, unsigned_narrow}
-use borrow.Author.Rules.{rules}
+use Rattle.word.proofs.Words.{unsigned_wide, unsigned_narrow}
 use Rattle.word.proofs.in_unsigned.Goals as goal
-
-pub returns-then-z-lt0 : goal.returns-then-z-lt0
-returns-then-z-lt0 c =
-    sym (unsigned_negative c.args.size c.args.z c.ranges.z c.if-z-lt0.true)
 
 pub returns-then-size-ge8 : goal.returns-then-size-ge8
 returns-then-size-ge8 c =
