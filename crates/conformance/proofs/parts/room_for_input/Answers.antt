@@ -2,11 +2,7 @@
 -- computed.
 use Rattle.std.proofs.Common.{ℕ, sym}
 use lib.ListN.{length-replicate}
-use Rattle.conformance.proofs.parts.room_for_input.Statement.{statement}
-use Rattle.conformance.proofs.parts.room_for_input.Tie as tie
+use Rattle.conformance.proofs.parts.room_for_input.Goals as goal
 
-returns : tie.Need-returns
+pub returns : goal.returns
 returns c = sym (length-replicate {A = ℕ} 1048576 0)
-
-pub room_for_input_spec : {M : Type 1} → statement M
-room_for_input_spec = tie.close (tie.spec returns)
