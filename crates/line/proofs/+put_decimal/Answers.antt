@@ -1,5 +1,4 @@
 -- The last digit comes after the digits of n / 10.
-use Prim.Native.Nat.{◌≤◌}
 use native.Mathlib.Omega.{arith}
 use Rattle.line.proofs.Buffers.{one_digit, digit_inside, last_digit}
 use Rattle.line.proofs.+put_decimal.Goals as goal
