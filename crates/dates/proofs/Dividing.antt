@@ -67,10 +67,6 @@ module _ (leap : Bool) (l r : ℕ) (e : cond {A = ℕ} leap 1 2 ≡ l) (a : 1 �
         end = omega (arith, march (suc m) (omega arith) (omega arith));
       }
 
-pub short_year : (leap : Bool) (r : ℕ) → r < cond leap 366 365 → r ≤ 365
-short_year true r h = omega arith
-short_year false r h = omega arith
-
 pub found : (leap : Bool) (r : ℕ) → r < cond leap 366 365 → Found leap r (widened leap r) (month_at (widened leap r))
 found true r h =
     cases (ltb r 60)

@@ -1,7 +1,6 @@
 -- `number_of` meets its contract: the tests are the definition's, but that no year after 2179 has a day that fits.
 use mathlib.Core.Path.{◌≡◌, sym, ap, ◌∙◌}
 use mathlib.Core.Bool.{true}
-use native.Mathlib.Omega.{arith}
 use Rattle.calendar.specs.Calendar.{date, is_date, in_two_bytes}
 use Rattle.calendar.proofs.Calls.{number_is}
 use Rattle.calendar.proofs.Existence.{no_date}
@@ -19,10 +18,6 @@ returns-then-not-is_date c =
 pub returns-then-year-gt2179 : goal.returns-then-year-gt2179
 returns-then-year-gt2179 c =
     sym (counted.too_late _ (there (goal.at.returns-then-year-gt2179 c).Else-not-is_date) c.if-year-gt2179.true)
-
-pub number-requires : goal.number-requires
-number-requires c =
-    (there (goal.at.number-requires c).Else-not-is_date, c.requires, omega (arith, c.if-year-gt2179.false))
 
 pub returns : goal.returns
 returns c =
