@@ -1,4 +1,6 @@
 // The list bound: how long the value list of an accepted reading can be.
+#![tactic(auto)]
+
 ghost use Rattle.std.specs.Prelude.{◌≡◌, ◌+◌, min};
 ghost use Rattle.definition.specs.Bound as bounds;
 ghost use Rattle.definition.specs.Calls.{list_bound};
@@ -61,6 +63,7 @@ fn bound_pad(s: State, n: u64) -> Stepped
 }
 
 // The sum after an item.
+#[tactic(auto, unfolding(definition::specs::Bound::bound_op))]
 fn bound_op(s: State, op: Op, data_length: u64) -> Stepped
     ensures { state_of result ≡ bounds.bound_op data_length s op }
 {
@@ -95,6 +98,7 @@ fn bound_by(table: &[u8; 256], format: &[u8], data_length: u64) -> Measured
 }
 
 // The list bound of a format and a data length.
+#[tactic(auto, unfolding(definition::specs::Calls::list_bound))]
 pub fn list_bound(format: &[u8], data_length: u64) -> Measured
     ensures { measured_of result ≡ list_bound format.now data_length }
 {

@@ -3,11 +3,10 @@ use Prim.Native.Nat.{ℕ, ◌+◌, ◌-◌, ◌≤◌, ◌<◌}
 use native.Mathlib.Omega.{arith}
 use mathlib.Core.Path.{◌≡◌, refl, sym, ap, ◌∙◌}
 use mathlib.Core.Bool.{Bool}
-use mathlib.Core.List.{List, [], ◌∷◌}
+use mathlib.Core.Logic.{◌⊎◌, inl, inr}
+use mathlib.Core.List.{List}
 use lib.IntN.{ℤ}
 use lib.ListN.{length, drop, length-drop}
-use types.Run.{OneOf, miss}
-use denote.Enum.Declared.{tag_of}
 use borrow.Author.Tests.{lt-leb}
 use Rattle.single.specs.Single.{from_single}
 use Rattle.definition.specs.Answers.{Checked, refused, accepted, ◌>>=◌}
@@ -18,8 +17,6 @@ use Rattle.definition.specs.declared.Kind.{Kind}
 use Rattle.definition.specs.declared.Kind.TheVariants.{SmallSigned, SmallUnsigned, Signed, Unsigned, LuaInteger, LuaUnsigned, Size, Single, Double}
 use Rattle.definition.specs.declared.Offset.{Offset}
 use Rattle.definition.specs.declared.Field.{Field}
-use Rattle.definition.specs.declared.Field.TheVariants as Field
-use Rattle.definition.specs.contracts.Kind.{the_type}
 use Rattle.words.specs.Digits.{low_bytes}
 use Rattle.load.specs.Numbers.{unsigned_at, signed_at}
 use Rattle.laws.proofs.Bytes.{number_is}
@@ -27,7 +24,6 @@ use Rattle.decode.specs.Readings.{from, value_of, Inside, Decodes}
 use Rattle.decode.specs.declared.Reading.{Reading}
 use Rattle.decode.specs.declared.Reading.TheVariants.{Integer, Float}
 use Rattle.decode.specs.declared.Decoded.{Decoded}
-use Rattle.decode.specs.declared.Decoded.TheVariants as Decoded
 
 pub bind_bind : {A B C : Type 0} (c : Checked A) (f : A → Checked B) (g : B → Checked C) → ((c >>= f) >>= g) ≡ (c >>= λ a. f a >>= g)
 bind_bind (refused k) f g = refl
@@ -85,43 +81,25 @@ module _ (d : List ℕ) (at : Offset) (o : Bool) (n : ℕ) where
   double_read {b} e h = number_read Double (float b) (Float b) h (rw (number_is o n at.0 d h, e)) refl tt
 
 -- ---- by the kind
-abbrev KindOf : List ℕ → Kind → Type 0
-KindOf tags k = OneOf tags (tag_of the_type k)
 
 -- kinds that are read alike
 abbrev Alike : Kind → Kind → Type 0
 Alike j k = (o : Bool) (n : ℕ) (s : List ℕ) → decode o (Field.Number j n) s ≡ decode o (Field.Number k n) s
 
--- the tags of b h i l j, and of B H I L J T
-abbrev signeds : List ℕ
-signeds = 0 ∷ 2 ∷ 7 ∷ []
-
-abbrev unsigneds : List ℕ
-unsigneds = 1 ∷ 3 ∷ 4 ∷ 8 ∷ []
-
-pub signed_kind : (k : Kind) → KindOf signeds k → Alike Signed k
+-- b h i l j
+pub signed_kind : {k : Kind} → (k ≡ SmallSigned) ⊎ ((k ≡ LuaInteger) ⊎ (k ≡ Signed)) → Alike Signed k
 unfolding decode
-signed_kind SmallSigned h = λ o n s. refl
-signed_kind SmallUnsigned h = absurd (miss signeds 1 tt h)
-signed_kind LuaInteger h = λ o n s. refl
-signed_kind LuaUnsigned h = absurd (miss signeds 3 tt h)
-signed_kind Size h = absurd (miss signeds 4 tt h)
-signed_kind Single h = absurd (miss signeds 5 tt h)
-signed_kind Double h = absurd (miss signeds 6 tt h)
-signed_kind Signed h = λ o n s. refl
-signed_kind Unsigned h = absurd (miss signeds 8 tt h)
+signed_kind (inl e) = λ o n s. rw e refl
+signed_kind (inr (inl e)) = λ o n s. rw e refl
+signed_kind (inr (inr e)) = λ o n s. rw e refl
 
-pub unsigned_kind : (k : Kind) → KindOf unsigneds k → Alike Unsigned k
+-- B H I L J T
+pub unsigned_kind : {k : Kind} → (k ≡ SmallUnsigned) ⊎ ((k ≡ LuaUnsigned) ⊎ ((k ≡ Size) ⊎ (k ≡ Unsigned))) → Alike Unsigned k
 unfolding decode
-unsigned_kind SmallSigned h = absurd (miss unsigneds 0 tt h)
-unsigned_kind SmallUnsigned h = λ o n s. refl
-unsigned_kind LuaInteger h = absurd (miss unsigneds 2 tt h)
-unsigned_kind LuaUnsigned h = λ o n s. refl
-unsigned_kind Size h = λ o n s. refl
-unsigned_kind Single h = absurd (miss unsigneds 5 tt h)
-unsigned_kind Double h = absurd (miss unsigneds 6 tt h)
-unsigned_kind Signed h = absurd (miss unsigneds 7 tt h)
-unsigned_kind Unsigned h = λ o n s. refl
+unsigned_kind (inl e) = λ o n s. rw e refl
+unsigned_kind (inr (inl e)) = λ o n s. rw e refl
+unsigned_kind (inr (inr (inl e))) = λ o n s. rw e refl
+unsigned_kind (inr (inr (inr e))) = λ o n s. rw e refl
 
 -- what one kind reads, another reads that is read alike
 pub alike : {d : List ℕ} {at : Offset} {o : Bool} {n : ℕ} {k j : Kind} {r : Decoded} → Alike j k → Decodes d at o (Field.Number j n) r → Decodes d at o (Field.Number k n) r

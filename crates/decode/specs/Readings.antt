@@ -9,7 +9,6 @@ use Rattle.definition.specs.declared.Field.TheVariants.{Number, Chars, ZeroEnded
 use Rattle.decode.specs.declared.Reading.{Reading}
 use Rattle.decode.specs.declared.Reading.TheVariants.{Integer, Float, Text}
 use Rattle.decode.specs.declared.Decoded.{Decoded}
-use Rattle.decode.specs.declared.Decoded.TheVariants as Decoded
 
 -- ---- what is read of the data d
 

@@ -1,4 +1,6 @@
 // The value of a field's bytes: 17, then 18 or 19, then 20.
+#![tactic(auto)]
+
 ghost use Rattle.std.specs.Prelude.{Bool, ◌+◌, ◌≤◌, T, length};
 ghost use Rattle.definition.specs.declared.Field.TheVariants as field;
 ghost use Rattle.definition.specs.declared.Kind.TheVariants as kind;

@@ -1,69 +1,34 @@
--- The place after padding, after a field and after an item.
-use Prim.Native.Nat.{ℕ, ◌+◌, ◌-◌, ◌^◌, ◌≤◌, ◌<◌}
+-- The place after a field and after an item.
+use Prim.Native.Nat.{ℕ, ◌^◌, ◌<◌}
 use native.Mathlib.Omega.{arith}
 use mathlib.Core.Path.{◌≡◌, refl, sym, ap, ◌∙◌}
 use mathlib.Core.Bool.{Bool}
 use mathlib.Core.List.{List, [], ◌∷◌}
-use lib.Dec.{T, leb, lit≤}
-use lib.ListN.{length, take, drop, length-drop}
+use lib.Dec.{T}
+use lib.ListN.{length, take, drop}
 use lib.Seq.{drop-drop}
-use types.Run.{OneOf, miss}
-use denote.Enum.Declared.{tag_of}
-use borrow.Author.Tests.{le-leb, lt-leb, leb-true, leb-false}
-use borrow.Table.Steps.{cases}
 use Rattle.definition.specs.Answers.{Checked, refused, accepted, ◌>>=◌}
 use Rattle.definition.specs.Values.{Value}
-use Rattle.definition.specs.States.{set, further, natural, padding}
+use Rattle.definition.specs.States.{set, further, natural}
 use Rattle.definition.specs.Writing.{Place, place}
-use Rattle.definition.specs.Reading.{Read, values_of, at_offset, skipped, read_field, read_op}
+use Rattle.definition.specs.Reading.{values_of, at_offset, skipped, read_field, read_op}
 use Rattle.laws.proofs.Ops.{Limited, set_limited, valid_setting}
 use Rattle.laws.proofs.Traces.{map_out, read_value}
 use Rattle.definition.specs.declared.State.{State}
 use Rattle.definition.specs.declared.Offset.{Offset}
 use Rattle.definition.specs.declared.Field.{Field}
-use Rattle.definition.specs.declared.Field.TheVariants as Field
 use Rattle.definition.specs.declared.Setting.{Setting}
-use Rattle.definition.specs.declared.Setting.TheVariants as Setting
 use Rattle.definition.specs.declared.Op.{Op}
-use Rattle.definition.specs.declared.Op.TheVariants as Op
-use Rattle.definition.specs.contracts.Field.{the_type}
 use Rattle.definition.specs.Fields.{decode}
-use Rattle.decode.specs.Readings.{Within, value_of, is_unaligned, decoded_of, DecodedInside, Decodes}
-use Rattle.fetch.specs.Fetching.{Stands, place_in, skipped_from, Skips, after_of, Countable, fetched_of, FetchedStands, Fetches}
+use Rattle.decode.specs.Readings.{value_of, is_unaligned, decoded_of, DecodedInside, Decodes}
+use Rattle.fetch.specs.Fetching.{Stands, place_in, Skips, after_of, Countable, fetched_of, FetchedStands, Fetches}
 use Rattle.decode.specs.declared.Decoded.{Decoded}
-use Rattle.decode.specs.declared.Decoded.TheVariants as Decoded
 use Rattle.fetch.specs.declared.Skipped.{Skipped}
-use Rattle.fetch.specs.declared.Skipped.TheVariants as Skipped
 use Rattle.fetch.specs.declared.Fetched.{Fetched}
-use Rattle.fetch.specs.declared.Fetched.TheVariants as Fetched
 
 -- the place n bytes on
 skipped_is : (d : List ℕ) (s : State) (n : ℕ) → skipped (place_in d s) n ≡ place_in d (further s n)
 skipped_is d s n = rw (drop-drop n s.length d)
-
--- ---- padding
-module _ (d : List ℕ) (s : State) (n k : ℕ) where
-  pub pad_refused : {j : ℕ} → refused j ≡ padding s n → Skips d s n k (Skipped.Refused j)
-  pad_refused e = record { says = rw (← e); inside = tt }
-
-  module _ {p : ℕ} (e : accepted p ≡ padding s n) where
-    pub pad_short : length d - s.length < p + k → Skips d s n k (Skipped.Refused 17)
-    pad_short h =
-        let l : length (drop s.length d) < p + k = omega (arith, length-drop s.length d) in
-        record { says = rw (← e, lt-leb (p + k) (length (drop s.length d)) l); inside = tt }
-
-    pub pad_read : {t : Offset} → t.0 ≡ s.length + (p + k) → Within d t → Skips d s n k (Skipped.To t)
-    pad_read q h =
-        let l : p + k ≤ length (drop s.length d) = omega (arith, length-drop s.length d) in
-        record { says = rw (← e, le-leb (p + k) (length (drop s.length d)) l, q, ← skipped_is d s (p + k)); inside = h }
-
-    -- past k bytes from t on, where the padding ends
-    pub pad_skip : (t : Offset) (rest : ℕ) {r : Skipped} → t.0 ≡ s.length + p → t.0 + rest ≡ length d → r ≡ skipped_from t rest k → Skips d s n k r
-    pad_skip t rest q l e =
-        rw e
-        (cases (leb k rest)
-        (λ y. rw y (pad_read (omega (arith, q)) (omega (arith, l, leb-true k rest y))))
-        (λ n. rw n (pad_short (omega (arith, q, l, leb-false k rest n)))))
 
 -- ---- a field: t is the offset after its padding, and x is what its bytes give there
 module _ {d : List ℕ} {s : State} {f : Field} where
@@ -135,23 +100,10 @@ module _ {d : List ℕ} {s : State} {n k : ℕ} where
   pad_op h p e = rw e (record { says = rw (← p.says); stands = (p.inside, h) })
 
 -- ---- by the variant
--- by the tags of c and z
-pub unaligned_tag : (f : Field) → OneOf (1 ∷ 2 ∷ []) (tag_of the_type f) → T (is_unaligned f)
-unaligned_tag (Field.Number k n) h = absurd (miss (1 ∷ 2 ∷ []) 0 tt h)
-unaligned_tag (Field.Chars n) h = tt
-unaligned_tag Field.ZeroEnded h = tt
-unaligned_tag (Field.Counted n) h = absurd (miss (1 ∷ 2 ∷ []) 3 tt h)
-
--- c and z align by 1
-pub unaligned_natural : (f : Field) → T (is_unaligned f) → 1 ≤ natural f
-unaligned_natural (Field.Number k n) h = absurd h
-unaligned_natural (Field.Chars n) h = lit≤ tt
-unaligned_natural Field.ZeroEnded h = lit≤ tt
-unaligned_natural (Field.Counted n) h = absurd h
 
 -- what is not c
-pub zero_ended_left : (f : Field) → T (is_unaligned f) → OneOf (0 ∷ 2 ∷ 3 ∷ []) (tag_of the_type f) → f ≡ Field.ZeroEnded
+pub zero_ended_left : (f : Field) → T (is_unaligned f) → ((n : ℕ) → f ≡ Field.Chars n → ⊥) → f ≡ Field.ZeroEnded
 zero_ended_left (Field.Number k n) h o = absurd h
-zero_ended_left (Field.Chars n) h o = absurd (miss (0 ∷ 2 ∷ 3 ∷ []) 1 tt o)
+zero_ended_left (Field.Chars n) h o = absurd (o n refl)
 zero_ended_left Field.ZeroEnded h o = refl
 zero_ended_left (Field.Counted n) h o = absurd h

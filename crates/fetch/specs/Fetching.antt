@@ -10,11 +10,8 @@ use Rattle.definition.specs.declared.State.{State}
 use Rattle.definition.specs.declared.Offset.{Offset}
 use Rattle.definition.specs.declared.Op.{Op}
 use Rattle.decode.specs.declared.Decoded.{Decoded}
-use Rattle.decode.specs.declared.Decoded.TheVariants as Decoded
 use Rattle.fetch.specs.declared.Skipped.{Skipped}
-use Rattle.fetch.specs.declared.Skipped.TheVariants as Skipped
 use Rattle.fetch.specs.declared.Fetched.{Fetched}
-use Rattle.fetch.specs.declared.Fetched.TheVariants as Fetched
 use Rattle.decode.specs.Readings.{from, Within, value_of, Inside}
 
 -- a state in the data d, its limit a power of two

@@ -1,4 +1,5 @@
 // What one item does to the state and reads of the data, or its refusal.
+#![tactic(auto)]
 
 ghost use Rattle.std.specs.Prelude.{◌≡◌, ◌+◌, ◌^◌, ◌≤◌, ◌<◌, T};
 ghost use Rattle.definition.specs.declared.Field.TheVariants as fields;

@@ -13,9 +13,7 @@ use Rattle.definition.specs.Options.{Table, Class, NumeralRule, Nothing, Digits,
 use Rattle.definition.specs.Items.{taken, taken_by, numeral_of, Numeral, Missing}
 use Rattle.definition.specs.Ops.{within16, op_by, op_with, op_of}
 use Rattle.laws.proofs.Ops.{entry_ok, Sizes}
-use Rattle.definition.specs.Options as Class
 use Rattle.definition.specs.declared.Op.{Op}
-use Rattle.definition.specs.declared.Op.TheVariants as Op
 use Rattle.options.specs.Packed.{plain_at, entry_at}
 use Rattle.operand.specs.Operands.{operand_by, operand_with, op_for, taking, operand_at}
 use Rattle.format.specs.Steps.{op_at, next_at}

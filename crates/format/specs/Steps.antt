@@ -9,7 +9,6 @@ use Rattle.definition.specs.declared.Op.{Op}
 use Rattle.options.specs.Packed.{entry_at}
 use Rattle.operand.specs.Operands.{op_for}
 use Rattle.format.specs.declared.cursor.Next.{Next}
-use Rattle.format.specs.declared.cursor.Next.TheVariants as Next
 
 -- what an item does, by the packed entry of its byte and its operand
 abbrev pub op_at : ℕ → ℕ → Op

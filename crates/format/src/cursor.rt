@@ -34,6 +34,7 @@ pub enum Next {
 }
 
 // What an option does that has no operand.
+#[tactic(auto, unfolding(options::specs::Packed::plain_at))]
 fn plain(e: u8) -> Op
     ensures { result ≡ op_for (plain_at e) 0 }
 {

@@ -4,9 +4,7 @@ use Rattle.definition.specs.Answers.{Checked, refused, accepted, ◌>>=◌}
 use Rattle.definition.specs.Values.{Value, integer}
 use Rattle.definition.specs.Fields.{number, unsigned, signed_value}
 use Rattle.load.specs.declared.Unsigned.{Unsigned}
-use Rattle.load.specs.declared.Unsigned.TheVariants as Unsigned
 use Rattle.load.specs.declared.Signed.{Signed}
-use Rattle.load.specs.declared.Signed.TheVariants as Signed
 
 abbrev pub unsigned_of : Unsigned → Checked ℕ
 unsigned_of (Unsigned.Fits u) = accepted u

@@ -1,4 +1,6 @@
 // Reads integers of data.
+#![tactic(auto)]
+
 ghost use Rattle.std.specs.Prelude.{◌≡◌, ◌+◌, ◌^◌, ◌<◌, ◌≤◌, length, drop};
 ghost use Rattle.definition.specs.Bytes.{total, signed, low};
 ghost use Rattle.definition.specs.Fields.{all};

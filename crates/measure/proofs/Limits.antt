@@ -7,7 +7,6 @@ use Rattle.definition.specs.States.{natural, further, longer, padding}
 use Rattle.definition.specs.Measuring.{size_of, measure_pad, measure_op}
 use Rattle.definition.specs.declared.State.{State}
 use Rattle.definition.specs.declared.Op.{Op}
-use Rattle.definition.specs.declared.Op.TheVariants as Op
 use Rattle.laws.proofs.Answers.{same, bound, passed}
 use Rattle.laws.proofs.Ops.{Limited, set_limited, valid_op}
 

@@ -2,7 +2,6 @@
 use Rattle.std.specs.Prelude.{ℕ}
 use Rattle.definition.specs.Answers.{Checked, refused, accepted}
 use Rattle.measure.specs.declared.Measured.{Measured}
-use Rattle.measure.specs.declared.Measured.TheVariants as Measured
 
 abbrev pub measured_of : Measured → Checked ℕ
 measured_of (Measured.Refused k) = refused k

@@ -1,4 +1,6 @@
 // The size of a format.
+#![tactic(auto)]
+
 ghost use Rattle.std.specs.Prelude.{◌≡◌, ◌≤◌, T};
 ghost use Rattle.definition.specs.Measuring.{size_of, measure_pad, measure_op, measure_from};
 ghost use Rattle.definition.specs.Calls.{string_packsize};
@@ -66,6 +68,7 @@ fn measure_field(s: State, f: Field) -> Stepped
 }
 
 // The state after an item.
+#[tactic(auto, unfolding(definition::specs::Measuring::measure_op))]
 fn measure_op(s: State, op: Op) -> Stepped
     requires limited { Limited s }
     requires valid_op { T (valid_op op) }
@@ -103,6 +106,7 @@ fn measure_from(table: &[u8; 256], format: &[u8], from: State) -> Stepped
 }
 
 // The size of a format.
+#[tactic(auto, unfolding(definition::specs::Measuring::measure))]
 pub fn string_packsize(format: &[u8]) -> Measured
     ensures { measured_of result ≡ string_packsize format.now }
 {

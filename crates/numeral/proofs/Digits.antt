@@ -12,11 +12,9 @@ use lib.Seq.{drop-cons, take_all}
 use borrow.Author.Tests.{lt-ltb, le-ltb, ltb-false, leb-true, eqb-true, eqb-false, ne_eqb}
 use borrow.Table.Steps.{cases}
 use Rattle.definition.specs.Items.{is_digit, digits, value, numeral_of}
-use Rattle.definition.specs.Items as Numeral
 use Rattle.laws.proofs.Answers.{both_parts}
 use Rattle.numeral.specs.Numerals.{digit_first, grown, digit_on, read_on, scan_by, scanned, short_of}
 use Rattle.numeral.specs.declared.Digit.{Digit}
-use Rattle.numeral.specs.declared.Digit.TheVariants as Digit
 use Rattle.numeral.specs.declared.Scan.{Scan}
 use Rattle.numeral.specs.declared.Scan.TheVariants.{Missing, TooLarge, Value}
 use Rattle.numeral.specs.declared.Short.TheVariants as Short

@@ -2,13 +2,9 @@
 use Rattle.std.specs.Prelude.{ℕ, ◌+◌, ◌*◌, ◌-◌, ◌^◌, Bool, true, false, cond, List, [], ◌∷◌, ltb, eqb, length}
 use Prim.Native.Char.{code}
 use Rattle.definition.specs.Items.{is_digit, value, Numeral}
-use Rattle.definition.specs.Items as Numeral
 use Rattle.numeral.specs.declared.Digit.{Digit}
-use Rattle.numeral.specs.declared.Digit.TheVariants as Digit
 use Rattle.numeral.specs.declared.Scan.{Scan}
-use Rattle.numeral.specs.declared.Scan.TheVariants as Scan
 use Rattle.numeral.specs.declared.Short.{Short}
-use Rattle.numeral.specs.declared.Short.TheVariants as Short
 
 -- s begins with a digit
 abbrev pub digit_first : List ℕ → Bool

@@ -1,4 +1,6 @@
 // Numerals: leading zeros, and digits that do not count, are passed by a loop, and the rest is read by recursion.
+#![tactic(auto)]
+
 ghost use Rattle.std.specs.Prelude.{◌≡◌, ◌+◌, ◌-◌, ◌^◌, ◌<◌, true, length, get_or, take, drop};
 ghost use Rattle.definition.specs.Items.{digits, value, numeral_of};
 ghost use Rattle.numeral.specs.Numerals.{digit_first, digit_on, read_on, scan_by, scanned, short_of};

@@ -13,7 +13,6 @@ use Rattle.definition.specs.Answers.{Checked, refused, accepted}
 use Rattle.definition.specs.Options.{entry, Table, Nothing, Entry}
 use Rattle.definition.specs.Items.{digits, is_number, behind_x, next_byte, numeral_of}
 use Rattle.definition.specs.Ops.{within16, size_or, natural_by}
-use Rattle.definition.specs.Items as Numeral
 use Rattle.options.specs.Packed.{size_at, entry_at}
 use Rattle.operand.specs.Operands.{taking, operand_at, natural_at, one_more}
 use Rattle.laws.proofs.Ops.{ok}

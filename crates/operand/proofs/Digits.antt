@@ -14,7 +14,6 @@ use Rattle.definition.specs.Ops.{is_power}
 use Rattle.definition.specs.Items as Numeral
 use Rattle.numeral.specs.Numerals.{short_of}
 use Rattle.numeral.specs.declared.Short.{Short}
-use Rattle.numeral.specs.declared.Short.TheVariants as Short
 use Rattle.laws.proofs.Answers.{both_parts}
 use Rattle.options.specs.Packed.{size_at, entry_at}
 use Rattle.operand.specs.Operands.{operand_by, operand_at, shown_at}

@@ -11,7 +11,6 @@ use Rattle.definition.specs.Options.{entry, Class, NoOption, Blank, Order, Limit
 use Rattle.definition.specs.Ops.{within16, size_or, limit_or, needed}
 use Rattle.definition.specs.declared.Kind.TheVariants.{Signed, Unsigned}
 use Rattle.definition.specs.Items.{Numeral}
-use Rattle.definition.specs.Items as Numeral
 use Rattle.options.specs.Packed.{kind_at, size_at, plain_at, entry_at}
 use Rattle.operand.specs.Operands.{size_by, operand_by}
 

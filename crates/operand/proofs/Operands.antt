@@ -14,7 +14,6 @@ use Rattle.options.specs.Packed.{kind_at, size_at, plain_at, entry_at}
 use Rattle.operand.specs.Operands.{operand_by, operand_with, taking, operand_at, natural_at, operand_of, RoomFor1, behind_of}
 use Rattle.operand.specs.declared.Behind.{Behind}
 use Rattle.operand.specs.declared.Operand.{Operand}
-use Rattle.operand.specs.declared.Operand.TheVariants as Operand
 use Rattle.operand.proofs.Taken.{taken_length}
 use Rattle.operand.proofs.Entries.{cut, at_fixed, at_plain, at_align, at_none, plain_all}
 
@@ -33,9 +32,9 @@ room t (Operand.Of n i) e s q h = omega (arith, operand_count t e s n i (sym q))
 
 -- ---- X, and a byte that is no option
 -- what the answer y says of s, which follows X
-pub behind_is : (t : Table) (e : ℕ) → 248 ≤ e → e < 252 → (s : List ℕ) (x y : Behind) → x ≡ y → behind_of t x s ≡ natural_at t s → behind_of t y s ≡ operand_at t (entry_at e) s
+pub behind_is : (t : Table) (e : ℕ) → 248 ≤ e → e < 252 → (s : List ℕ) (y : Behind) → behind_of t y s ≡ natural_at t s → behind_of t y s ≡ operand_at t (entry_at e) s
 unfolding operand_at natural_at
-behind_is t e l h s x y q p = rw (at_align e l h) (rw q at p)
+behind_is t e l h s y p = rw (at_align e l h) p
 
 pub operand_none : (t : Table) (e : ℕ) → 252 ≤ e → (s : List ℕ) → refused 1 ≡ operand_at t (entry_at e) s
 unfolding operand_at

@@ -4,19 +4,14 @@ use Rattle.definition.specs.Answers.{Checked, refused, accepted, ◌>>=◌}
 use Rattle.definition.specs.Items.{digits, taken_by, next_byte, numeral_of, Numeral, Missing, TooLarge, Value}
 use Rattle.definition.specs.Ops.{size_or, limit_or, needed, natural_of}
 use Rattle.definition.specs.Options.{Table, Class, NumeralRule, Nothing, Digits, DigitsBehindX, NextByte, Entry}
-use Rattle.definition.specs.Options as Class
 use Rattle.definition.specs.declared.Op.{Op}
-use Rattle.definition.specs.declared.Op.TheVariants as Op
 use Rattle.definition.specs.declared.Field.TheVariants as Field
 use Rattle.definition.specs.declared.Setting.TheVariants as Setting
 use Rattle.numeral.specs.Numerals.{short_of}
 use Rattle.numeral.specs.declared.Short.{Short}
-use Rattle.numeral.specs.declared.Short.TheVariants as Short
 use Rattle.options.specs.Packed.{entry_at}
 use Rattle.operand.specs.declared.Operand.{Operand}
-use Rattle.operand.specs.declared.Operand.TheVariants as Operand
 use Rattle.operand.specs.declared.Behind.{Behind}
-use Rattle.operand.specs.declared.Behind.TheVariants as Behind
 
 -- the size by the numeral; n, which needs no check, without one
 abbrev pub size_by : ℕ → Numeral → Checked ℕ

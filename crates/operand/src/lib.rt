@@ -1,4 +1,6 @@
 // The operand of an option: its size, limit, length or alignment, by its numeral or without one.
+#![tactic(auto)]
+
 ghost use Rattle.std.specs.Prelude.{◌≡◌, ◌≤◌, ◌<◌, length, drop};
 ghost use Rattle.definition.specs.Options.{Table};
 ghost use Rattle.definition.specs.Ops.{size_or, limit_or};

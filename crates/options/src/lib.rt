@@ -1,4 +1,6 @@
 // The option table: a number for each byte value, which packs its class, its size and its numeral rule.
+#![tactic(auto)]
+
 ghost use Rattle.std.specs.Prelude.{◌≡◌};
 ghost use Rattle.definition.specs.Options.{options};
 ghost use Rattle.options.specs.Packed.{entry_at, table_at, kind_at, size_at};
@@ -62,6 +64,7 @@ pub fn entry(table: &[u8; 256], b: u8) -> u8
 }
 
 // The kind of a number of fixed size.
+#[tactic(auto, unfolding(crate::specs::Packed::kind_at))]
 pub fn kind_of(e: u8) -> Kind
     ensures { result ≡ kind_at e }
 {

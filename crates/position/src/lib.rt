@@ -1,4 +1,6 @@
 // "An offset counts from 0, a position from 1": the one place where the two are converted, and the sums over offsets.
+#![tactic(auto)]
+
 ghost use Rattle.std.specs.Prelude.{◌≡◌, ◌+◌, ◌-◌, ◌≤◌, ◌<◌, ◌^◌};
 ghost use Rattle.definition.specs.Reading.{offset_of, position_of};
 ghost use Rattle.position.specs.Starts.{started_of};

@@ -4,7 +4,6 @@ use Rattle.definition.specs.Answers.{refused, accepted}
 use Rattle.definition.specs.Trays.{lists}
 use Rattle.laws.proofs.Runs.{following}
 use Rattle.runs.specs.declared.Entry.{Entry}
-use Rattle.runs.specs.declared.Entry.TheVariants as Entry
 
 -- a list, from `from` to `next`, and then the lists of the run from there
 pub record Stands (r : List ℕ) (at from next : ℕ) : Type 0 where

@@ -1,4 +1,6 @@
 // The lists of a run, each behind its length in two bytes, big-endian.
+#![tactic(auto)]
+
 ghost use Rattle.std.specs.Prelude.{◌≡◌, ◌≤◌, length, drop};
 ghost use Rattle.definition.specs.Trays.{lists};
 ghost use Rattle.values.specs.Meaning.{is_accepted};

@@ -2,4 +2,3 @@ pub mod Loading
 pub mod Contents
 pub mod Fields
 pub mod Lists
-pub mod Held

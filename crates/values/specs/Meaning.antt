@@ -8,7 +8,6 @@ use Rattle.definition.specs.Values as definition
 use Rattle.definition.specs.Values.{integer, float, text, other}
 use Rattle.definition.specs.Lists.{big_total, field_of}
 use Rattle.values.specs.declared.Content.{Content}
-use Rattle.values.specs.declared.Content.TheVariants as Content
 use Rattle.values.specs.declared.Value.{Value}
 use Rattle.values.specs.declared.Value.TheVariants.{Integer, Float, NotANumber, Text, Other}
 use Rattle.values.specs.declared.Field.{Field}

@@ -1,5 +1,6 @@
 -- Laws of the single bytes of an integer: where the byte k stands, and what it is.
-use Rattle.std.proofs.Common.{◌≡◌, ℕ, zero, suc, ◌+◌, ◌-◌, ◌*◌, ◌/◌, ◌%◌, ◌^◌, ◌<◌, ◌≤◌, Bool, true, false, cond, ltb, List, [], ◌∷◌, ◌++◌, reverse, length, get_or, replicate, sym, refl, ap, ◌∙◌, not-suc-le-zero, mul-le-mul_right, one-mul, pow-suc, add-one, arith, lit<, get_or-append-add, pow-add, shl_exact, ltb-false, ltb-true}
+use Rattle.std.proofs.Common.{◌≡◌, ℕ, zero, suc, ◌+◌, ◌-◌, ◌*◌, ◌/◌, ◌%◌, ◌^◌, ◌<◌, ◌≤◌, Bool, true, false, cond, ltb}
+use Rattle.std.proofs.Common.{List, [], ◌∷◌, ◌++◌, reverse, length, get_or, replicate, sym, refl, ap, ◌∙◌, not-suc-le-zero, mul-le-mul_right, one-mul, pow-suc, add-one, arith, lit<, get_or-append-add, pow-add, shl_exact, ltb-false, ltb-true}
 use mathlib.Core.List.{reverse-cons}
 use native.Mathlib.Decide.{dec_lt}
 use lib.ListN.{length-reverse, get_or-replicate, get_or-append}

@@ -1,4 +1,6 @@
 // Integers and their 64 bits, in two's complement, and where their bytes stand.
+#![tactic(auto)]
+
 ghost use Rattle.std.specs.Prelude.{◌≡◌, ◌<◌};
 ghost use Rattle.definition.specs.Bytes.{bits, sign, extent, signed};
 ghost use Rattle.words.specs.Digits.{place_of};

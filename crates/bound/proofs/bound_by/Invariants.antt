@@ -1,14 +1,11 @@
 -- The invariant: the run from the start state has come to the cursor's place and to the state. The measure is what is left of the format.
-use Prim.Native.Nat.{ℕ, ◌-◌}
-use mathlib.Core.Path.{ap}
+use Prim.Native.Nat.{◌-◌}
 use lib.ListN.{length}
-use Rattle.definition.specs.Answers.{Checked, accepted, ◌>>=◌}
-use Rattle.definition.specs.declared.State.{State}
-use Rattle.definition.specs.Bound.{bound_op, bounding, bound}
+use Rattle.definition.specs.Bound.{bound_op, bounding}
 use Rattle.definition.specs.Ops.{ops}
 use Rattle.definition.specs.States.{start}
 use Rattle.options.specs.Packed.{table_at}
-use Rattle.measure.proofs.Runs.{Ran, run_none, run_end, run_refusal, run_less, run_refused, run_on}
+use Rattle.measure.proofs.Runs.{Ran}
 use Rattle.bound.proofs.bound_by.Given as goal
 
 abbrev pub invariant-loop-k : goal.invariant-loop-k

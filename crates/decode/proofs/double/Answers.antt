@@ -1,8 +1,6 @@
 -- `double` meets its contract: the 64 bits of the eight bytes.
 use Rattle.decode.proofs.Numbers.{double_read}
-use borrow.Author.Rules.{rules}
 use Rattle.decode.proofs.double.Goals as goal
 
 pub returns : goal.returns
-returns c =
-    double_read _ _ _ 8 c.get_word.ensures.0 c.requires
+returns c = double_read _ _ _ 8 c.get_word.ensures.0 c.requires

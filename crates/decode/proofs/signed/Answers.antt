@@ -4,9 +4,7 @@ use borrow.Author.Rules.{rules}
 use Rattle.decode.proofs.signed.Goals as goal
 
 pub returns-in-Fits : goal.returns-in-Fits
-returns-in-Fits c =
-    signed_read _ _ _ _ (search rules) c.requires (rw c.in-Fits.is at c.get_signed.ensures)
+returns-in-Fits c = signed_read _ _ _ _ (search rules) c.requires c.in-Fits.ensures
 
 pub returns-in-TooWide : goal.returns-in-TooWide
-returns-in-TooWide c =
-    number_refused _ _ _ _ _ (rw c.in-TooWide.is at c.get_signed.ensures)
+returns-in-TooWide c = number_refused _ _ _ _ _ c.in-TooWide.ensures

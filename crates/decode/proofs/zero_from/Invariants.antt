@@ -1,10 +1,8 @@
 -- `zero_from` meets its contract. The invariant: no zero stands from `at`, where i starts, and before i. The measure is what is left of the data.
 use Prim.Native.Nat.{◌-◌}
-use native.Mathlib.Omega.{arith}
 use lib.ListN.{length}
-use borrow.Author.Rules.{rules}
 use Rattle.definition.specs.Reading.{offset}
-use Rattle.decode.proofs.Texts.{NoZero, no_zero_yet, no_zero_more, zero_here, zero_nowhere}
+use Rattle.decode.proofs.Texts.{NoZero}
 use Rattle.decode.proofs.zero_from.Given as goal
 
 abbrev pub invariant-loop-i : goal.invariant-loop-i

@@ -1,34 +1,9 @@
 -- `read_counted` meets its contract: the offset after the padding, and there the length and the text.
-use Rattle.definition.specs.declared.Field.TheVariants.{Counted}
-use Rattle.laws.proofs.Fields.{field_natural}
-use Rattle.fetch.specs.Fetching.{Skips}
-use Rattle.fetch.specs.declared.Skipped.TheVariants.{To}
-use Rattle.fetch.proofs.Places.{field_pad_refused, field_after, countable}
-use borrow.Author.Rules.{rules}
+use Rattle.fetch.proofs.Places.{field_pad_refused, field_after}
 use Rattle.fetch.proofs.read_counted.Goals as goal
-use Rattle.fetch.proofs.read_counted.Goals.{In-To}
-
--- the offset after the padding
-aligned : (c : In-To) → let s = c.before.before.before.before.before.before in
-    Skips s.args.«data».now s.args.s s.args.size 0 (To c.before.t-1.given.0.0)
-aligned c = let p = c.before.before.before in rw (p.before.natural.ensures, c.before.t-1.given.1) at p.read_pad.ensures
-
-pub read_pad-requires : goal.read_pad-requires
-read_pad-requires c =
-    record { stands = c.requires.stands; positive = rw c.natural.ensures (field_natural (Counted c.args.size) c.requires.valid_field) }
-
-pub counted-requires : goal.counted-requires
-counted-requires c =
-    (aligned (goal.at.counted-requires c).In-To).inside
-
-pub after-requires : goal.after-requires
-after-requires c =
-    countable c.well_formed.0.0 c.counted.ensures
 
 pub returns-in-Refused : goal.returns-in-Refused
-returns-in-Refused c =
-    field_pad_refused (rw (c.natural.ensures, c.in-Refused.is) at c.read_pad.ensures)
+returns-in-Refused c = field_pad_refused (rw c.natural.ensures at c.in-Refused.ensures)
 
 pub returns-in-To : goal.returns-in-To
-returns-in-To c =
-    field_after (aligned (goal.at.returns-in-To c).In-To) c.counted.ensures c.after.ensures
+returns-in-To c = field_after (rw c.natural.ensures at c.in-To.ensures) c.counted.ensures c.after.ensures

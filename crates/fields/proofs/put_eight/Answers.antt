@@ -1,6 +1,5 @@
 -- `put_eight` meets its contract: the content, and the head right before it.
 use Rattle.fields.proofs.Storing.{eight_stored}
-use borrow.Author.Rules.{rules}
 use Rattle.fields.proofs.put_eight.Goals as goal
 
 pub returns : goal.returns

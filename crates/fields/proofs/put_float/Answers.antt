@@ -1,6 +1,5 @@
 -- `put_float` meets its contract: a field of tag 2.
 use Rattle.fields.proofs.Storing.{float_field}
-use borrow.Author.Rules.{rules}
 use Rattle.fields.proofs.put_float.Goals as goal
 
 pub returns : goal.returns

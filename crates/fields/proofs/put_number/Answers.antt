@@ -1,6 +1,5 @@
 -- `put_number` meets its contract: the stored bytes, in this order and up to eight, are those of a number.
 use Rattle.laws.proofs.Lists.{laid_big}
-use borrow.Author.Rules.{rules}
 use Rattle.fields.proofs.put_number.Goals as goal
 
 pub returns : goal.returns

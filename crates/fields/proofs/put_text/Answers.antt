@@ -2,7 +2,6 @@
 use lib.ListN.{take, drop}
 use Rattle.laws.proofs.Bytes.{length_part}
 use Rattle.fields.proofs.Storing.{text_stored}
-use borrow.Author.Rules.{rules}
 use Rattle.fields.proofs.put_text.Goals as goal
 
 pub returns : goal.returns

@@ -1,6 +1,6 @@
--- `get_bytes` meets its contract: each turn adds the next byte, shifted to its place.
-use Rattle.std.proofs.Common.{◌+◌, ◌-◌, arith}
-use Rattle.load.proofs.Gathering.{Gathered, gathered_none, gathered_more, gathered_all, gathered_fits}
+-- `get_bytes`: the word is the number of the k lowest bytes.
+use Rattle.std.proofs.Common.{◌-◌}
+use Rattle.load.proofs.Gathering.{Gathered}
 use Rattle.load.proofs.get_bytes.Given as goal
 
 abbrev pub invariant-loop-k : goal.invariant-loop-k

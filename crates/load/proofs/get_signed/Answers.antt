@@ -1,19 +1,17 @@
 -- `get_signed` meets its contract: the integer of the low bytes, where those above are filled with its sign.
-use Rattle.std.proofs.Common.{◌∙◌, to_z-of_z, w64, rules}
-use Rattle.load.proofs.Gathering.{Inside, signed_fits, signed_too_wide}
+use Rattle.std.proofs.Common.{◌∙◌, to_z-of_z, w64}
+use Rattle.load.proofs.Gathering.{signed_fits, signed_too_wide}
 use borrow.Author.Rules.{sfits_of}
 use Rattle.load.proofs.get_signed.Goals as goal
-use Rattle.load.proofs.get_signed.Goals.{Start}
-
-here : (c : Start) → Inside c.args.big c.args.size c.args.at c.args.«data».now
-here c = record { ends = c.requires }
 
 pub returns-then-is_filled : goal.returns-then-is_filled
 returns-then-is_filled c =
-    signed_fits (here (goal.at.returns-then-is_filled c).Start) c.get_word.ensures.0 (to_z-of_z (sfits_of {w = w64} c.restored-x.type_inv) ∙ c.restored-x.ensures)
+    let x = c.restored-x in
+    signed_fits (record { ends = c.requires }) c.get_word.ensures.0 (to_z-of_z (sfits_of {w = w64} x.type_inv) ∙ x.ensures)
     c.sign_byte.ensures c.is_filled.ensures c.if-is_filled.true
 
 pub returns-else-is_filled : goal.returns-else-is_filled
 returns-else-is_filled c =
-    signed_too_wide (here (goal.at.returns-else-is_filled c).Start) c.get_word.ensures.0 (to_z-of_z (sfits_of {w = w64} c.restored-x.type_inv) ∙ c.restored-x.ensures)
+    let x = c.restored-x in
+    signed_too_wide (record { ends = c.requires }) c.get_word.ensures.0 (to_z-of_z (sfits_of {w = w64} x.type_inv) ∙ x.ensures)
     c.sign_byte.ensures c.is_filled.ensures c.if-is_filled.false

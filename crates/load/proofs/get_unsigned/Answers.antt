@@ -1,16 +1,9 @@
 -- `get_unsigned` meets its contract: the number of the low bytes, where those above are zeros.
-use Rattle.load.proofs.Gathering.{Inside, unsigned_fits, unsigned_too_wide}
-use Rattle.std.proofs.Common.{rules}
+use Rattle.load.proofs.Gathering.{unsigned_fits, unsigned_too_wide}
 use Rattle.load.proofs.get_unsigned.Goals as goal
-use Rattle.load.proofs.get_unsigned.Goals.{Start}
-
-here : (c : Start) → Inside c.args.big c.args.size c.args.at c.args.«data».now
-here c = record { ends = c.requires }
 
 pub returns-then-is_filled : goal.returns-then-is_filled
-returns-then-is_filled c =
-    unsigned_fits (here (goal.at.returns-then-is_filled c).Start) c.get_word.ensures.0 c.is_filled.ensures c.if-is_filled.true
+returns-then-is_filled c = unsigned_fits (record { ends = c.requires }) c.get_word.ensures.0 c.is_filled.ensures c.if-is_filled.true
 
 pub returns-else-is_filled : goal.returns-else-is_filled
-returns-else-is_filled c =
-    unsigned_too_wide (here (goal.at.returns-else-is_filled c).Start) c.is_filled.ensures c.if-is_filled.false
+returns-else-is_filled c = unsigned_too_wide (record { ends = c.requires }) c.is_filled.ensures c.if-is_filled.false

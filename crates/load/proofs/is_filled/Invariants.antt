@@ -1,6 +1,6 @@
--- `is_filled` meets its contract: each byte passed is the fill, so the rest decides.
-use Rattle.std.proofs.Common.{◌-◌, arith}
-use Rattle.load.proofs.Gathering.{Passed, passed_none, passed_more, passed_other, passed_all}
+-- `is_filled`: each byte above eight and below k is the fill.
+use Rattle.std.proofs.Common.{◌-◌}
+use Rattle.load.proofs.Gathering.{Passed}
 use Rattle.load.proofs.is_filled.Given as goal
 
 abbrev pub invariant-loop-k : goal.invariant-loop-k

@@ -1,5 +1,5 @@
 -- `restored` meets its contract: half of 256 ^ size is added and, wrapping, subtracted.
-use Rattle.std.proofs.Common.{◌≡◌, ◌^◌, ◌<◌, ◌≤◌, ◌∙◌, arith, lit<, to_z-of_z, w64, rules}
+use Rattle.std.proofs.Common.{◌≡◌, ◌^◌, ◌<◌, ◌≤◌, ◌∙◌, arith, lit<, to_z-of_z, w64}
 use native.Mathlib.Nat.{pow-le-pow_right}
 use Rattle.definition.specs.Bytes.{low}
 use Rattle.laws.proofs.Bytes.{pow_pos}
@@ -26,7 +26,7 @@ returns-then-size-lt8 c =
     let h = c.if-size-lt8.true in
     to_z-of_z (sfits_of {w = w64} c.to_signed.type_inv)
     ∙ c.to_signed.ensures
-    ∙ restored_is a.size a.word c.wrapping_sub_u64.result h c.requires (omega arith) (rw (shifted_one a.size h) at c.wrapping_sub_u64.ensures)
+    ∙ restored_is a.size a.word c.wrapping_sub_u64.result h c.requires (omega arith) (rw (shifted_one a.size h) at c.wrapping_sub_u64.ensures.value)
 
 pub returns-else-size-lt8 : goal.returns-else-size-lt8
 returns-else-size-lt8 c =

@@ -1,13 +1,10 @@
 -- The invariant: the run from the first state has come to the cursor's place and to the state, whose limit is a power of two. The measure is what is left of the format.
 use Prim.Native.Nat.{◌-◌}
-use mathlib.Core.Path.{refl, sym}
-use lib.Dec.{T}
 use lib.ListN.{length}
 use Rattle.definition.specs.Measuring.{measure_op, measure_from}
-use Rattle.laws.proofs.Ops.{Limited, valid_op}
+use Rattle.laws.proofs.Ops.{Limited}
 use Rattle.options.specs.Packed.{table_at}
-use Rattle.measure.proofs.Limits.{op_limited}
-use Rattle.measure.proofs.Runs.{Ran, run_none, run_end, run_refusal, run_valid, run_less, run_refused, run_on}
+use Rattle.measure.proofs.Runs.{Ran}
 use Rattle.measure.proofs.measure_from.Given as goal
 
 abbrev pub invariant-loop-k : goal.invariant-loop-k

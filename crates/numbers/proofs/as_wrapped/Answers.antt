@@ -1,28 +1,16 @@
--- `as_wrapped` meets its contract: by the kind of the value.
-use Rattle.std.proofs.Common.{T, sym, ap, subst, rules}
+-- `as_wrapped` meets its contract: by the kind of the value, and T writes 0 of a NaN.
+use Rattle.std.proofs.Common.{T, ap, rules}
 use mathlib.Core.Option.{some}
-use lib.Ieee.{binary64}
+use lib.Ieee.{binary64, fits}
 use lib.Ieee.Bits.{of_bits-to_bits}
 use Rattle.numbers.proofs.Signs.{nan_of_bits}
 use Rattle.numbers.proofs.as_wrapped.Goals as goal
 
-pub returns-in-Integer : goal.returns-in-Integer
-returns-in-Integer c =
-    rw c.in-Integer.is
-
 pub returns-in-Float : goal.returns-in-Float
 returns-in-Float c =
-    let v = c.v-1.given in
-    rw (v.1, of_bits-to_bits binary64 v.0.0 (subst T (sym c.known_told-1.given.0.1) tt)) (ap some c.wrapped.ensures)
+    λ l.
+    let f : T (fits binary64 c.in-Float.x) = search rules in
+    rw (c.in-Float.is, of_bits-to_bits binary64 c.in-Float.x f) (ap some c.wrapped.ensures)
 
 pub returns-in-NotANumber : goal.returns-in-NotANumber
-returns-in-NotANumber c =
-    rw (c.in-NotANumber.is, nan_of_bits _ (rw c.in-NotANumber.is at c.requires))
-
-pub returns-in-Text : goal.returns-in-Text
-returns-in-Text c =
-    rw c.in-Text.is
-
-pub returns-in-Other : goal.returns-in-Other
-returns-in-Other c =
-    rw c.in-Other.is
+returns-in-NotANumber c = λ l. rw (c.in-NotANumber.is, nan_of_bits _ (rw c.in-NotANumber.is at c.requires))

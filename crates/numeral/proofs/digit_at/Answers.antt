@@ -1,7 +1,6 @@
 -- Inside the text the byte decides, and past its end there is no digit.
 use mathlib.Core.Path.{sym, ◌∙◌}
 use borrow.Author.Tests.{le-leb, lt-leb}
-use borrow.Author.Rules.{rules}
 use Rattle.numeral.proofs.Digits.{first_at, first_past}
 use Rattle.numeral.proofs.digit_at.Goals as goal
 

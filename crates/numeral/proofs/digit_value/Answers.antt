@@ -1,6 +1,5 @@
 -- A digit stands inside the text, and its byte is at least 48.
 use native.Mathlib.Omega.{arith}
-use borrow.Author.Rules.{rules}
 use Rattle.numeral.proofs.Digits.{first_inside, first_byte}
 use Rattle.numeral.proofs.digit_value.Goals as goal
 

@@ -1,10 +1,8 @@
-use Prim.Native.Nat.{◌+◌, ◌-◌}
+-- A turn has a digit, so it stays inside the text; past the last one there is none.
 use mathlib.Core.Path.{◌≡◌, refl, sym, ◌∙◌}
 use mathlib.Core.Bool.{true}
 use native.Mathlib.Omega.{arith}
-use borrow.Author.Rules.{rules}
-use lib.ListN.{length, drop}
-use Rattle.definition.specs.Items.{digits}
+use lib.ListN.{drop}
 use Rattle.numeral.specs.Numerals.{digit_first}
 use Rattle.numeral.proofs.Digits.{digit_length, digit_none, first_inside}
 use Rattle.numeral.proofs.skip_digits.Goals as goal

@@ -1,13 +1,8 @@
 -- The invariant: the digits from i on end where those from the first place end. The measure is what is left of the text.
 use Prim.Native.Nat.{◌+◌, ◌-◌}
-use mathlib.Core.Path.{◌≡◌, refl, sym, ◌∙◌}
-use mathlib.Core.Bool.{true}
-use native.Mathlib.Omega.{arith}
-use borrow.Author.Rules.{rules}
+use mathlib.Core.Path.{◌≡◌}
 use lib.ListN.{length, drop}
 use Rattle.definition.specs.Items.{digits}
-use Rattle.numeral.specs.Numerals.{digit_first}
-use Rattle.numeral.proofs.Digits.{digit_length, digit_none, first_inside}
 use Rattle.numeral.proofs.skip_digits.Given as goal
 
 abbrev pub invariant-loop-i : goal.invariant-loop-i

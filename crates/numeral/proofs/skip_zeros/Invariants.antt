@@ -1,11 +1,8 @@
 -- The invariant: the digits from i on have the value and the end of all digits at the front. The measure is what is left of the text.
-use Prim.Native.Nat.{◌+◌, ◌-◌, ◌<◌}
-use mathlib.Core.Path.{◌≡◌, refl, ◌∙◌}
-use native.Mathlib.Nat.{zero-add}
-use native.Mathlib.Omega.{arith}
+use Prim.Native.Nat.{◌+◌, ◌-◌}
+use mathlib.Core.Path.{◌≡◌}
 use lib.ListN.{length, drop}
 use Rattle.definition.specs.Items.{digits, value}
-use Rattle.numeral.proofs.Digits.{zero_passed}
 use Rattle.numeral.proofs.skip_zeros.Given as goal
 
 abbrev pub invariant-loop-i : goal.invariant-loop-i

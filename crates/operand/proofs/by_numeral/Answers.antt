@@ -1,29 +1,26 @@
 -- The scan of the digits that follow is the numeral of the definition.
-use mathlib.Core.Path.{◌≡◌, sym, ap, ◌∙◌}
-use borrow.Author.Rules.{rules}
+use Rattle.std.proofs.Common.{◌≡◌, ℕ, ◌≤◌, ◌<◌, List, ap, ◌∙◌}
 use Rattle.definition.specs.Options.{Table}
 use Rattle.numeral.specs.declared.Scan.{Scan}
 use Rattle.numeral.specs.declared.Scan.TheVariants.{Missing, TooLarge, Value}
+use Rattle.numeral.proofs.Digits.{scan_of}
 use Rattle.operand.specs.Operands.{operand_at}
 use Rattle.options.specs.Packed.{entry_at}
 use Rattle.operand.proofs.Numerals.{by_scan, by_scan_lem}
 use Rattle.operand.proofs.by_numeral.Goals as goal
-use Rattle.operand.proofs.by_numeral.Goals.{After-read}
 
 -- the operand by the scan x
-scan : (c : After-read) (x : Scan) → c.read.result ≡ x → (t : Table) → let a = c.before.before.args in by_scan (entry_at a.e).class (entry_at a.e).size x ≡ operand_at t (entry_at a.e) a.rest.now
-scan c x q t =
-    let b = c.before.before in
-    ap (by_scan (entry_at b.args.e).class (entry_at b.args.e).size) (sym q ∙ c.read.ensures) ∙ by_scan_lem t b.args.e b.requires.low b.requires.high b.args.rest.now
+scan : (e : ℕ) (s : List ℕ) (x : Scan) → 192 ≤ e → e < 248 → x ≡ scan_of s → (t : Table) → by_scan (entry_at e).class (entry_at e).size x ≡ operand_at t (entry_at e) s
+scan e s x l h q t = ap (by_scan (entry_at e).class (entry_at e).size) q ∙ by_scan_lem t e l h s
 
 pub returns-in-Missing : goal.returns-in-Missing
 returns-in-Missing c =
-    c.without_numeral.ensures ∙ scan (goal.at.returns-in-Missing c).After-read Missing c.in-Missing.is t
+    λ t. c.without_numeral.ensures ∙ scan c.args.e c.args.rest.now Missing c.requires.low c.requires.high c.in-Missing.ensures t
 
 pub returns-in-TooLarge : goal.returns-in-TooLarge
 returns-in-TooLarge c =
-    scan (goal.at.returns-in-TooLarge c).After-read TooLarge c.in-TooLarge.is
+    scan c.args.e c.args.rest.now TooLarge c.requires.low c.requires.high c.in-TooLarge.ensures
 
 pub returns-in-Value : goal.returns-in-Value
 returns-in-Value c =
-    let n = c.n-1.given in c.with_numeral.ensures ∙ scan (goal.at.returns-in-Value c).After-read (Value n.0.0 n.0.1.0) n.1 t
+    λ t. c.with_numeral.ensures ∙ scan c.args.e c.args.rest.now (Value c.in-Value.n c.in-Value.i) c.requires.low c.requires.high c.in-Value.ensures t

@@ -1,6 +1,5 @@
 -- The tests are those of the definition, in its order.
 use mathlib.Core.Path.{sym, ◌∙◌}
-use borrow.Author.Rules.{rules}
 use borrow.Author.Tests.{le-leb, lt-leb}
 use Rattle.operand.proofs.limit.Goals as goal
 

@@ -1,5 +1,4 @@
 -- A refusal stays, and a count grows by one.
-use borrow.Author.Rules.{rules}
 use Rattle.operand.proofs.one_more.Goals as goal
 
 pub overflow_add-result : goal.overflow_add-result

@@ -1,5 +1,4 @@
 -- The range of the entry tells whether the option may have a numeral.
-use borrow.Author.Rules.{rules}
 use borrow.Author.Tests.{lt-ltb, le-ltb, lt-leb, le-leb}
 use Rattle.operand.proofs.shown.Goals as goal
 

@@ -1,5 +1,4 @@
 -- The range of the entry tells which operand the option has.
-use borrow.Author.Rules.{rules}
 use Rattle.operand.proofs.Entries.{sized_by, chars_by, limit_by}
 use Rattle.operand.proofs.with_numeral.Goals as goal
 

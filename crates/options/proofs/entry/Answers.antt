@@ -1,6 +1,5 @@
 -- A byte value is below 256.
 use native.Mathlib.Omega.{arith}
-use borrow.Author.Rules.{rules}
 use borrow.Author.Tests.{lt-ltb}
 use Rattle.options.proofs.entry.Goals as goal
 

@@ -5,7 +5,6 @@ use mir.Facts.{to_z-of_z}
 use Rattle.definition.specs.Bytes.{extent}
 use Rattle.words.proofs.Twos.{negative, positive}
 use Rattle.position.proofs.Starting.{from_the_end, before_the_data, from_the_front, no_position, behind_the_data}
-use borrow.Author.Rules.{rules}
 use Rattle.position.proofs.offset_of.Goals as goal
 use Rattle.position.proofs.offset_of.Goals.{After-extent-n, Else-start-lt0, Then-start-lt0}
 

@@ -1,12 +1,9 @@
 -- The invariant: whether the rest is a run decides for the whole. The measure is what is left of the run.
 use Prim.Native.Nat.{◌-◌, ◌≤◌}
-use native.Mathlib.Omega.{arith}
-use mathlib.Core.Path.{◌≡◌, refl, sym, ap, ◌∙◌}
+use mathlib.Core.Path.{◌≡◌}
 use lib.ListN.{length, drop}
 use Rattle.definition.specs.Trays.{lists}
 use Rattle.values.specs.Meaning.{is_accepted}
-use Rattle.runs.specs.Entries.{Stands}
-use Rattle.runs.proofs.Standing.{rest_decides}
 use Rattle.runs.proofs.is_run.Given as goal
 
 abbrev pub invariant-loop-next : goal.invariant-loop-next

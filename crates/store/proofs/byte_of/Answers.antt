@@ -1,5 +1,4 @@
 -- `byte_of` meets its contract: a shift by 8 k bits divides by 256 ^ k.
-use borrow.Author.Rules.{rules}
 use borrow.Author.Tests.{lt-ltb, le-ltb}
 use Rattle.words.proofs.Placing.{bits_of_bytes}
 use Rattle.store.proofs.byte_of.Goals as goal

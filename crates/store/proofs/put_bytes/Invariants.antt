@@ -1,11 +1,7 @@
 -- `put_bytes` meets its contract: each turn writes the next byte of `laid`.
 use Prim.Native.Nat.{◌-◌}
-use mathlib.Core.Path.{sym, ◌∙◌}
-use native.Mathlib.Omega.{arith}
 use Rattle.definition.specs.Bytes.{laid}
-use Rattle.laws.proofs.Bytes.{length_laid}
-use Rattle.words.proofs.Placing.{laid_at}
-use Rattle.store.proofs.Pasting.{Pasted, pasted_none, pasted_more, pasted_length, pasted_all}
+use Rattle.store.proofs.Pasting.{Pasted}
 use Rattle.store.proofs.put_bytes.Given as goal
 
 abbrev pub invariant-loop-j : goal.invariant-loop-j

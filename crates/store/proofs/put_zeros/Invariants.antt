@@ -1,9 +1,7 @@
 -- `put_zeros` meets its contract: each turn writes one zero more.
 use Prim.Native.Nat.{◌-◌}
-use mathlib.Core.Path.{sym}
-use native.Mathlib.Omega.{arith}
-use lib.ListN.{replicate, length-replicate, get_or-replicate}
-use Rattle.store.proofs.Pasting.{Pasted, pasted_none, pasted_more, pasted_length, pasted_all}
+use lib.ListN.{replicate}
+use Rattle.store.proofs.Pasting.{Pasted}
 use Rattle.store.proofs.put_zeros.Given as goal
 
 abbrev pub invariant-loop-j : goal.invariant-loop-j

@@ -1,13 +1,9 @@
 -- `is_list` meets its contract. The loop's invariant: the whole list is accepted just where the list from `at` is.
-use Prim.Native.Nat.{◌+◌, ◌-◌}
-use mathlib.Core.Path.{◌≡◌, refl, sym, ap, ◌∙◌}
-use native.Mathlib.Omega.{arith}
-use lib.ListN.{length, drop, drop_of_length-le}
-use borrow.Author.Rules.{rules}
-use Rattle.definition.specs.Lists.{values_past, values}
-use Rattle.values.specs.Meaning.{is_accepted, Whole}
-use Rattle.values.proofs.Contents.{by_suits}
-use Rattle.values.proofs.Fields.{values_by, accepted_beginning}
+use Prim.Native.Nat.{◌-◌}
+use mathlib.Core.Path.{◌≡◌}
+use lib.ListN.{length, drop}
+use Rattle.definition.specs.Lists.{values}
+use Rattle.values.specs.Meaning.{is_accepted}
 use Rattle.values.proofs.is_list.Given as goal
 
 abbrev pub invariant-loop-at : goal.invariant-loop-at

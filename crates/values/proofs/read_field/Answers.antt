@@ -1,12 +1,6 @@
 -- `read_field` meets its contract: at the end, or a field.
 use Rattle.values.proofs.Contents.{at_end}
-use borrow.Author.Rules.{rules}
 use Rattle.values.proofs.read_field.Goals as goal
 
 pub returns-then-at-list : goal.returns-then-at-list
-returns-then-at-list c =
-    at_end c.args.list.now c.args.at c.if-at-list.true
-
-pub value_at-requires : goal.value_at-requires
-value_at-requires c =
-    record { inside = c.if-at-list.false; list_sound = c.requires }
+returns-then-at-list c = at_end c.args.list.now c.args.at c.if-at-list.true

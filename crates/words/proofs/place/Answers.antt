@@ -1,5 +1,5 @@
 -- `place` meets its contract: each arm is a case of `place_of`.
-use Rattle.std.proofs.Common.{arith, rules}
+use Rattle.std.proofs.Common.{arith}
 use Rattle.words.proofs.place.Goals as goal
 
 pub returns-then-big : goal.returns-then-big

@@ -1,5 +1,5 @@
 -- `to_signed` meets its contract: from 2^63 on, 0 - w wraps to 2^64 - w, and the integer is -1 - n for n one less.
-use Rattle.std.proofs.Common.{◌-◌, ◌^◌, ◌<◌, pos, sym, ◌∙◌, arith, w64, rules}
+use Rattle.std.proofs.Common.{◌-◌, ◌^◌, ◌<◌, pos, sym, ◌∙◌, arith, w64}
 use mir.Facts.{to_z_pos}
 use Rattle.laws.proofs.Bytes.{signed_low}
 use Rattle.words.proofs.Twos.{minus_one_fits, minus_one_is, signed_top}

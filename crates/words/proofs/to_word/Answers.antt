@@ -1,5 +1,5 @@
 -- `to_word` meets its contract: for -1 - n, 0 - (n + 1) wraps to 2^64 - 1 - n.
-use Rattle.std.proofs.Common.{◌≡◌, ◌-◌, ◌^◌, sym, ap, ◌∙◌, arith, to_z-of_z, rules}
+use Rattle.std.proofs.Common.{◌≡◌, ◌-◌, ◌^◌, sym, ap, ◌∙◌, arith, to_z-of_z}
 use Rattle.definition.specs.Bytes.{bits, extent}
 use Rattle.words.proofs.Twos.{extent_fits, negative, positive}
 use Rattle.words.proofs.to_word.Goals as goal

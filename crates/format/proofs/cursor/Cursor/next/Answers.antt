@@ -2,13 +2,11 @@
 use Prim.Native.Nat.{◌+◌}
 use mathlib.Core.Path.{◌≡◌, sym, ap, ◌∙◌}
 use native.Mathlib.Omega.{arith}
-use borrow.Author.Rules.{rules}
 use lib.ListN.{drop, length-drop}
 use Rattle.operand.specs.Operands.{operand_of}
 use Rattle.options.specs.Packed.{entry_at, table_at}
 use Rattle.format.specs.Steps.{next_at}
 use Rattle.operand.specs.declared.Operand.{Operand}
-use Rattle.operand.specs.declared.Operand.TheVariants as Operand
 use Rattle.format.proofs.Cursors.{step_of, next_end, next_step}
 use Rattle.operand.proofs.Operands.{operand_count}
 use Rattle.format.proofs.cursor.Cursor.next.Goals as goal

@@ -1,6 +1,5 @@
 -- The range of the entry tells the class.
 use mathlib.Core.Path.{◌∙◌}
-use borrow.Author.Rules.{rules}
 use Rattle.format.proofs.Cursors.{plain_op, align_op}
 use Rattle.operand.proofs.Entries.{at_fixed, at_plain, at_signed, at_unsigned, at_counted, at_chars, at_limit}
 use Rattle.format.proofs.cursor.Item.op.Goals as goal
