@@ -4,7 +4,7 @@
 // A line that begins with # names a group: #v one of vectors, #r one of recorded answers, and of a group it is written how
 // many cases there are, and each that does not hold. Any other # is a heading, and the lines below it are profiles: each
 // line is written with our answer behind it. The files vector.rt, recorded.rt and profile.rt say what their lines are,
-// reader.rt how they write bytes.
+// reader.rt how they write bytes. Where a read or a write fails, the program ends with that error.
 #![tactic(auto)]
 
 mod answers;

@@ -20,9 +20,7 @@ use Rattle.definition.specs.declared.State.{State}
 use Rattle.definition.specs.declared.Setting.{Setting}
 use Rattle.definition.specs.declared.Kind.{Kind}
 use Rattle.definition.specs.declared.Field.{Field}
-use Rattle.definition.specs.declared.Field.TheVariants as Field
 use Rattle.definition.specs.declared.Op.{Op}
-use Rattle.definition.specs.declared.Op.TheVariants as Op
 use Rattle.laws.proofs.Answers.{same, bound, passed}
 use Rattle.laws.proofs.Bytes.{length_laid}
 use Rattle.laws.proofs.Fills.{fill_of_lem}
@@ -36,7 +34,6 @@ use Rattle.word.specs.Words.{fill_of, Says}
 use Rattle.plan.specs.Texts.{first_text, TextAt, TextRead}
 use Rattle.plan.specs.Plans.{wrote, Encoded, Wrote, Padded, ItemPlan, ItemAt, NumberPlan, BytesPlan}
 use Rattle.plan.specs.declared.item.Plan.{Plan}
-use Rattle.plan.specs.declared.item.Plan.TheVariants as Plan
 use Rattle.plan.specs.declared.text.Text.TheVariants as Text
 use Rattle.word.specs.declared.Word.TheVariants as Word
 use Rattle.plan.proofs.Texts.{TextField, no_text}

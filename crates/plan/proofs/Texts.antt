@@ -16,18 +16,15 @@ use Rattle.definition.specs.Values.{text, as_bytes}
 use Rattle.definition.specs.Lists.{values}
 use Rattle.definition.specs.Fields.{encode, has_zero}
 use Rattle.definition.specs.declared.Field.{Field}
-use Rattle.definition.specs.declared.Field.TheVariants as Field
 use Rattle.laws.proofs.Bytes.{pow_le, length_laid}
 use Rattle.laws.proofs.Numbers.{within_from_1}
 use Rattle.values.specs.Meaning.{meaning, Inside, FieldRead}
 use Rattle.values.specs.declared.Field.TheVariants as Found
 use Rattle.values.specs.declared.Value.{Value}
-use Rattle.values.specs.declared.Value.TheVariants as Value
 use Rattle.values.proofs.Fields.{takes_none, takes_first}
 use Rattle.plan.specs.Texts.{first_text, TextOf, TextAt, TextRead}
 use Rattle.store.specs.Texts.{text_bytes, counted_bytes}
 use Rattle.plan.specs.declared.text.Text.{Text}
-use Rattle.plan.specs.declared.text.Text.TheVariants as Text
 
 -- ---- the text at an offset
 module _ (l : List ℕ) (at : ℕ) where

@@ -9,11 +9,9 @@ use borrow.Author.Tests.{leb-true}
 use Rattle.definition.specs.Answers.{refused, accepted}
 use Rattle.definition.specs.States.{set, further, longer, padding}
 use Rattle.definition.specs.declared.Setting.{Setting}
-use Rattle.definition.specs.declared.Setting.TheVariants as Setting
 use Rattle.definition.specs.declared.State.{State}
 use Rattle.definition.specs.declared.Field.{Field}
 use Rattle.definition.specs.declared.Op.{Op}
-use Rattle.definition.specs.declared.Op.TheVariants as Op
 use Rattle.laws.proofs.Ops.{Limited, set_limited, valid_op}
 use Rattle.laws.proofs.Answers.{same, bound}
 use Rattle.laws.proofs.Steps.{longer_room, longer_twice}

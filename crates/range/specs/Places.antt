@@ -7,14 +7,10 @@ use Rattle.lengths.specs.Lengths as Lengths
 use Rattle.lengths.specs.Lengths.{range, pair_for, places}
 use Rattle.lengths.specs.declared.Range.{Range}
 use Rattle.range.specs.declared.Ranged.{Ranged}
-use Rattle.range.specs.declared.Ranged.TheVariants as Ranged
 use Rattle.range.specs.declared.Zeros.{Zeros}
-use Rattle.range.specs.declared.Zeros.TheVariants as Zeros
 use Rattle.range.specs.declared.Extent.{Extent}
-use Rattle.range.specs.declared.Extent.TheVariants as Extent
 use Rattle.range.specs.declared.Place.{Place}
 use Rattle.range.specs.declared.Moved.{Moved}
-use Rattle.range.specs.declared.Moved.TheVariants as Moved
 
 abbrev pub ranged_of : Ranged → Checked Range
 ranged_of (Ranged.Refused k) = refused k

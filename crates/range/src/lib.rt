@@ -1,4 +1,6 @@
 // The least and the greatest length of a record whose texts have lengths between given ones: both go over the format side by side.
+#![tactic(auto)]
+
 ghost use Rattle.std.specs.Prelude.{◌≡◌, Bool, List, [], ℕ, ◌+◌, ◌≤◌, ◌<◌, ◌^◌, T, leb, ltb, length, drop};
 ghost use Rattle.definition.specs.declared.Op.TheVariants.{Pad, Put};
 ghost use Rattle.laws.proofs.Fields.{valid_field};
@@ -88,6 +90,7 @@ fn most_counted(size: u64) -> u64
 }
 
 // The bytes of a field.
+#[tactic(auto, unfolding(lengths::specs::Lengths::extents))]
 fn extents(f: Field, pairs: &[u8], at: usize) -> Extent
     requires valid_field { T (valid_field f) }
     requires inside { at ≤ length pairs.now }
@@ -137,6 +140,7 @@ fn onward(p: Place, a: u64, m: u64, b: u64, n: u64, at: usize) -> Moved
 }
 
 // The place after an alignment and n bytes.
+#[tactic(auto, unfolding(lengths::specs::Lengths::range_op))]
 fn range_pad(p: Place, natural: u64, n: u64) -> Moved
     requires limited { Limited p.greatest }
     requires positive { 1 ≤ natural }
@@ -151,6 +155,7 @@ fn range_pad(p: Place, natural: u64, n: u64) -> Moved
 }
 
 // The place after a field.
+#[tactic(auto, unfolding(lengths::specs::Lengths::range_op))]
 fn range_field(p: Place, f: Field, pairs: &[u8]) -> Moved
     requires limited { Limited p.greatest }
     requires valid_field { T (valid_field f) }
@@ -169,6 +174,7 @@ fn range_field(p: Place, f: Field, pairs: &[u8]) -> Moved
 }
 
 // The place after an item.
+#[tactic(auto, unfolding(lengths::specs::Lengths::range_op))]
 fn range_op(p: Place, op: Op, pairs: &[u8]) -> Moved
     requires limited { Limited p.greatest }
     requires valid_op { T (valid_op op) }
@@ -240,6 +246,7 @@ fn range_by(table: &[u8; 256], format: &[u8], pairs: &[u8]) -> Ranged
 
 // The least and the greatest length of a record of a format: the pairs have, for each z or s in order, the least and the greatest
 // length of its text, two bytes each, big-endian.
+#[tactic(auto, unfolding(lengths::specs::Lengths::packsize_range))]
 pub fn packsize_range(format: &[u8], pairs: &[u8]) -> Ranged
     ensures { ranged_of result ≡ ranges.packsize_range format.now pairs.now }
 {

@@ -26,7 +26,6 @@ use Rattle.decode.specs.Readings.{value_of, Inside}
 use Rattle.fetch.specs.Fetching.{Stands, place_in, FetchedStands, Fetches}
 use Rattle.decode.specs.declared.Reading.{Reading}
 use Rattle.fetch.specs.declared.Fetched.{Fetched}
-use Rattle.fetch.specs.declared.Fetched.TheVariants as Fetched
 use Rattle.align.specs.Amounts.{SameTo63}
 use Rattle.read_pass.specs.Runs.{read_at, size_of, Short, Reads, Fits, list_into, list_after}
 use Rattle.read_pass.proofs.Sizes.{no_values, list_parts, size_is, short}

@@ -19,7 +19,6 @@ use Rattle.decode.specs.Readings.{value_of}
 use Rattle.fetch.specs.Fetching.{Stands, place_in, fetched_of, FetchedStands, Fetches}
 use Rattle.decode.specs.declared.Reading.{Reading}
 use Rattle.fetch.specs.declared.Fetched.{Fetched}
-use Rattle.fetch.specs.declared.Fetched.TheVariants as Fetched
 use Rattle.read_pass.specs.Runs.{read_at}
 
 -- of the data d and the format f by the table t, w is the whole run: the values vs were read, and the place is at a state and at an item

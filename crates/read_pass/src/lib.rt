@@ -1,4 +1,6 @@
 // A pass over a format: every check, the length of the value list, and where it is asked for, the list.
+#![tactic(auto)]
+
 ghost use Rattle.std.specs.Prelude.{◌≡◌, true, cond, [], ◌∷◌, ◌+◌, ◌≤◌, length};
 ghost use Rattle.std.proofs.Math.Seq.{paste};
 ghost use Rattle.definition.specs.Lists.{list_of};

@@ -1,18 +1,13 @@
 -- The invariant: the run from the start state has come to the cursor's place and to both lengths. The measure is what is left of the format.
 use Prim.Native.Nat.{◌-◌}
-use mathlib.Core.Path.{refl, ap}
-use lib.Dec.{T}
 use lib.ListN.{length}
-use Rattle.definition.specs.Answers.{Checked, accepted, ◌>>=◌}
 use Rattle.definition.specs.Ops.{ops}
 use Rattle.definition.specs.States.{start}
-use Rattle.laws.proofs.Ops.{valid_op}
 use Rattle.options.specs.Packed.{table_at}
-use Rattle.measure.proofs.Runs.{Ran, run_none, run_end, run_refusal, run_valid, run_less, run_refused, run_on}
-use Rattle.lengths.specs.Lengths.{Places, places, range_op, ranging, range_of, range_by}
-use Rattle.lengths.specs.declared.Range.{Range}
+use Rattle.measure.proofs.Runs.{Ran}
+use Rattle.lengths.specs.Lengths.{places, range_op, ranging}
 use Rattle.range.specs.Places.{places_of}
-use Rattle.range.proofs.Moves.{Kept, first_kept, op_kept}
+use Rattle.range.proofs.Moves.{Kept}
 use Rattle.range.proofs.range_by.Given as goal
 
 abbrev pub invariant-loop-k : goal.invariant-loop-k

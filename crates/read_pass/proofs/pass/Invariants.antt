@@ -1,16 +1,9 @@
 -- `pass` meets its contract. The invariant: the values that were read so far, whose list has the total as its length and, with `put`, stands
 -- at the front of the buffer. The measure is what is left of the format.
-use Prim.Native.Nat.{◌^◌, ◌-◌, ◌<◌, ◌≤◌}
-use native.Mathlib.Omega.{arith}
-use mathlib.Core.Path.{◌≡◌, sym, ◌∙◌}
-use mathlib.Core.Logic.{⊎_elim}
-use mathlib.Core.Option.{some}
-use lib.ListN.{length, drop}
-use Rattle.definition.specs.Answers.{accepted}
-use Rattle.format.specs.Steps.{next_at}
+use Prim.Native.Nat.{◌-◌}
+use lib.ListN.{length}
 use Rattle.options.specs.Packed.{table_at}
-use Rattle.format.proofs.Walking.{valid, ahead}
-use Rattle.read_pass.proofs.Passing.{Passing, passing_none, passing_length, passing_end, passing_refusal, passing_refused, passing_set, passing_short, passing_room, passing_put, passing_kept, passing_more}
+use Rattle.read_pass.proofs.Passing.{Passing}
 use Rattle.read_pass.proofs.pass.Given as goal
 
 abbrev pub invariant-loop-k : goal.invariant-loop-k
