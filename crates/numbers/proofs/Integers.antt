@@ -86,7 +86,7 @@ module _ (s : Bool) (t : ℕ) (t_lt : t < 2 ^ 52) where
   m_lt : m < 2 ^ 53
   m_lt = omega arith
 
-  fields_value : (j : ℕ) → suc j < 2047 → HasValue (of_fields binary64 s (suc j) t) s (m * 2 ^ j) (2 ^ 1074)
+  pub fields_value : (j : ℕ) → suc j < 2047 → HasValue (of_fields binary64 s (suc j) t) s (m * 2 ^ j) (2 ^ 1074)
   unfolding of_fields
   fields_value j h = rw (ne_eqb (suc j) 2047 (omega arith)) (odd_sign 53 s m j 1074)
 

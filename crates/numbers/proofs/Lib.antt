@@ -5,3 +5,4 @@ pub mod Nearest
 pub mod Remainders
 pub mod Wrapping
 pub mod WholeNumbers
+pub mod LowBits

@@ -22,12 +22,12 @@ pub left_lt : (m : ℕ) (e : ℤ) → left m e < 2 ^ 64 * down e
 left_lt m e = mod-lt (m * up e) (mul-pos (pow_pos 64) (down_pos e))
 
 -- r / d is q * 2 ^ j smallest values, which binary64 holds
-record Held (r d : ℕ) : Type 0 where
-  q : ℕ
-  j : ℕ
-  few : q < 2 ^ 53
-  small : q * 2 ^ j < 2 ^ 2098
-  is : r * 2 ^ 1074 ≡ q * 2 ^ j * d
+pub record Held (r d : ℕ) : Type 0 where
+  pub q : ℕ
+  pub j : ℕ
+  pub few : q < 2 ^ 53
+  pub small : q * 2 ^ j < 2 ^ 2098
+  pub is : r * 2 ^ 1074 ≡ q * 2 ^ j * d
 
 -- a remainder by a multiple of the factor
 pub scaled : (a b c : ℕ) → 0 < b → 0 < c → a * c % (b * c) ≡ a % b * c
@@ -73,7 +73,7 @@ held_fraction m k h l =
     room : (k : ℕ) → 53 + (1074 - k) ≤ 2098
     room k = omega arith
 
-held : (s : Bool) (m : ℕ) (e : ℤ) → T (fits binary64 (fin s m e)) → Held (left m e) (down e)
+pub held : (s : Bool) (m : ℕ) (e : ℤ) → T (fits binary64 (fin s m e)) → Held (left m e) (down e)
 held s m (pos k) f = held_whole m k (whole_few s m k f)
 held s m (negsuc k) f = let h = fraction_few s m k f in held_fraction m k h.0 h.1
 

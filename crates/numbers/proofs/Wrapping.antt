@@ -170,7 +170,7 @@ pub wrapped_negative : (m : ℕ) (e : ℤ) → 0 < left m e → wrapped (fin tru
 wrapped_negative m e h = rw (lt-ltb 0 (left m e) h)
 
 module _ (x : Float) (f : T (fits binary64 x)) (h : lt (rem binary64 x two64) zero_float ≡ true) where
-  pub sum_truncates : lt (add binary64 (rem binary64 x two64) two64) two64 ≡ true → Truncates (add binary64 (rem binary64 x two64) two64) x
+  sum_truncates : lt (add binary64 (rem binary64 x two64) two64) two64 ≡ true → Truncates (add binary64 (rem binary64 x two64) two64) x
   sum_truncates k =
       let n = negative x f h in
       let d = down n.e in
@@ -182,7 +182,7 @@ module _ (x : Float) (f : T (fits binary64 x)) (h : lt (rem binary64 x two64) ze
         is = ap (to_unsigned 64) n.sum ∙ b.1 ∙ sym (ap wrapped n.is ∙ wrapped_negative n.m n.e n.some_left);
       }
 
-  pub sum_becomes_top : lt (add binary64 (rem binary64 x two64) two64) two64 ≡ false → 2 ^ 64 - 1 ≡ wrapped x
+  sum_becomes_top : lt (add binary64 (rem binary64 x two64) two64) two64 ≡ false → 2 ^ 64 - 1 ≡ wrapped x
   sum_becomes_top k =
       let n = negative x f h in
       let d = down n.e in
@@ -201,13 +201,29 @@ module _ (s : Bool) (m : ℕ) (e : ℤ) (f : T (fits binary64 (fin s m e))) (h :
   wrapped_kept : cut (left m e) (down e) ≡ wrapped (fin s m e)
   wrapped_kept = rw positive
 
-pub remainder_truncates : (x : Float) → T (fits binary64 x) → lt (rem binary64 x two64) zero_float ≡ false → le zero_float (rem binary64 x two64) ≡ true → Truncates (rem binary64 x two64) x
+remainder_truncates : (x : Float) → T (fits binary64 x) → lt (rem binary64 x two64) zero_float ≡ false → le zero_float (rem binary64 x two64) ≡ true → Truncates (rem binary64 x two64) x
 unfolding rem le lt eq
 remainder_truncates nan f h k = absurd (false≢true k)
 remainder_truncates (inf s) f h k = absurd (false≢true k)
 remainder_truncates (fin s m e) f h k = let c = kept s m e f h in record { low = c.low; high = c.high; is = c.is ∙ wrapped_kept s m e f h }
 
-pub no_remainder_is_zero : (x : Float) → T (fits binary64 x) → lt (rem binary64 x two64) zero_float ≡ false → le zero_float (rem binary64 x two64) ≡ false → 0 ≡ wrapped x
+no_remainder_is_zero : (x : Float) → T (fits binary64 x) → lt (rem binary64 x two64) zero_float ≡ false → le zero_float (rem binary64 x two64) ≡ false → 0 ≡ wrapped x
 no_remainder_is_zero nan f h k = refl
 no_remainder_is_zero (inf s) f h k = refl
 no_remainder_is_zero (fin s m e) f h k = absurd (true≢false (sym (kept s m e f h).above ∙ k))
+
+-- ---- the same of the number that the code has for the remainder
+module _ (x r : Float) (f : T (fits binary64 x)) (is : r ≡ rem binary64 x two64) where
+  pub sum_cut : lt r zero_float ≡ true → lt (add binary64 r two64) two64 ≡ true → Truncates (add binary64 r two64) x
+  sum_cut =
+      subst (λ (y : Float). lt y zero_float ≡ true → lt (add binary64 y two64) two64 ≡ true → Truncates (add binary64 y two64) x) (sym is) (sum_truncates x f)
+
+  pub sum_capped : lt r zero_float ≡ true → lt (add binary64 r two64) two64 ≡ false → 2 ^ 64 - 1 ≡ wrapped x
+  sum_capped =
+      subst (λ (y : Float). lt y zero_float ≡ true → lt (add binary64 y two64) two64 ≡ false → 2 ^ 64 - 1 ≡ wrapped x) (sym is) (sum_becomes_top x f)
+
+  pub remainder_cut : lt r zero_float ≡ false → le zero_float r ≡ true → Truncates r x
+  remainder_cut = subst (λ (y : Float). lt y zero_float ≡ false → le zero_float y ≡ true → Truncates y x) (sym is) (remainder_truncates x f)
+
+  pub nothing_cut : lt r zero_float ≡ false → le zero_float r ≡ false → 0 ≡ wrapped x
+  nothing_cut = subst (λ (y : Float). lt y zero_float ≡ false → le zero_float y ≡ false → 0 ≡ wrapped x) (sym is) (no_remainder_is_zero x f)

@@ -1,10 +1,10 @@
 // The integer of a value, its number, and T of its float.
 #![tactic(auto)]
 
-ghost use Rattle.std.specs.Prelude.{◌≡◌, ℕ, ◌<◌, true, List, pos, to_bits};
+ghost use Rattle.std.specs.Prelude.{◌≡◌, ℕ, ◌+◌, ◌-◌, ◌*◌, ◌/◌, ◌%◌, ◌^◌, ◌<◌, ◌≤◌, true, false, List, pos, to_bits};
 ghost use Rattle.std.proofs.Math.Option.{some};
 ghost use Rattle.std.specs.Float.{binary64};
-ghost use Rattle.std.specs.Float.Ieee.{of_int};
+ghost use Rattle.std.specs.Float.Ieee.{of_int, rem, fin};
 ghost use Rattle.definition.specs.Values as definition;
 ghost use Rattle.values.specs.Meaning.{meaning, Proper};
 ghost use Rattle.numbers.specs.Meaning.{integer_found, bits_found, wrapped_float};
@@ -45,6 +45,11 @@ const EXTRA: u64 = 1 << EXTRA_BITS;
 const EXPONENT_OF_1: u64 = 1023;
 
 const EXPONENT_OF_TOP: u64 = 1023 + 63;
+
+// The exponent whose significand's last bit is 1, and that of infinity.
+const EXPONENT_OF_LAST: u64 = 1023 + 52;
+
+const EXPONENT_OF_INFINITY: u64 = 2047;
 
 // A whole number with a sign, where that is an integer of 64 bits.
 fn with_sign(negative: bool, whole: u64) -> Found
@@ -109,11 +114,42 @@ fn bits_of(n: i64) -> u64
     }
 }
 
+// The lowest 64 bits of a float's whole number, by its bits, from 2^64 on.
+fn low_bits(bits: u64) -> u64
+    requires { 1087 ≤ bits % 2 ^ 63 / 2 ^ 52 }
+    ensures { result ≡ (2 ^ 52 + bits % 2 ^ 52) * 2 ^ (bits % 2 ^ 63 / 2 ^ 52 - 1075) % 2 ^ 64 }
+{
+    let places = bits % SIGN / LEADING - EXPONENT_OF_LAST;
+    if places < 64 {
+        return (LEADING + bits % LEADING) << places;
+    }
+    0
+}
+
+// The remainder by 2^64, by the float's bits: the operator `%` would take it from the C library, and not from each version of it.
+fn remainder(x: f64) -> f64
+    ensures { result ≡ rem binary64 x (fin false 1 (pos 64)) }
+{
+    if x != x {
+        return x;
+    }
+    let bits = x.to_bits();
+    let exponent = bits % SIGN / LEADING;
+    if exponent <= EXPONENT_OF_TOP {
+        return x;
+    }
+    if exponent == EXPONENT_OF_INFINITY {
+        return f64::NAN;
+    }
+    let r = std::num::nearest_u64_to_f64(low_bits(bits));
+    if bits >= SIGN { -r } else { r }
+}
+
 // A float modulo 2^64, as T writes it.
 pub fn wrapped(x: f64) -> u64
     ensures { result ≡ definition.wrapped x }
 {
-    let r = x % TWO_64;
+    let r = remainder(x);
     if r < 0.0 {
         let sum = r + TWO_64;
         if sum < TWO_64 {

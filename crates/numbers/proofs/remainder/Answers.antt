@@ -1,0 +1,34 @@
+-- `remainder` meets its contract: each return is a law of proofs/LowBits.antt.
+use Rattle.std.proofs.Common.{ℕ, pos, T, rules, ap, ◌∙◌}
+use lib.Ieee.{binary64, fits, of_int}
+use Rattle.core.proofs.num.Patterns.{differs, tested}
+use Rattle.numbers.proofs.LowBits.{not_a_number, its_own, infinite, positive, negative}
+use Rattle.numbers.proofs.remainder.Goals as goal
+use Rattle.numbers.proofs.remainder.Goals.{Start}
+
+held : (c : Start) → T (fits binary64 c.args.x)
+held c = search rules
+
+pub returns-then-x : goal.returns-then-x
+returns-then-x c = not_a_number c.args.x c.if-x.true
+
+pub float_to_bits-bits : goal.float_to_bits-bits
+float_to_bits-bits c = tested _ _ (differs c.args.x) c.if-x.false
+
+pub returns-then-exponent-le-EXPONENT_OF_TOP : goal.returns-then-exponent-le-EXPONENT_OF_TOP
+returns-then-exponent-le-EXPONENT_OF_TOP c =
+    its_own c.args.x (held (goal.at.returns-then-exponent-le-EXPONENT_OF_TOP c).Start) c.if-exponent-le-EXPONENT_OF_TOP.true
+
+pub returns-then-exponent-eq-EXPONENT_OF_INFINITY : goal.returns-then-exponent-eq-EXPONENT_OF_INFINITY
+returns-then-exponent-eq-EXPONENT_OF_INFINITY c =
+    infinite c.args.x (held (goal.at.returns-then-exponent-eq-EXPONENT_OF_INFINITY c).Start) c.if-exponent-eq-EXPONENT_OF_INFINITY.true
+
+pub returns-then-bits-ge-SIGN : goal.returns-then-bits-ge-SIGN
+returns-then-bits-ge-SIGN c =
+    negative c.args.x (held (goal.at.returns-then-bits-ge-SIGN c).Start) c.if-exponent-le-EXPONENT_OF_TOP.false c.if-exponent-eq-EXPONENT_OF_INFINITY.false
+    c.nearest_u64_to_f64-r.result (c.nearest_u64_to_f64-r.ensures ∙ ap (λ (n : ℕ). of_int binary64 (pos n)) c.low_bits.ensures) c.if-bits-ge-SIGN.true
+
+pub returns-else-bits-ge-SIGN : goal.returns-else-bits-ge-SIGN
+returns-else-bits-ge-SIGN c =
+    positive c.args.x (held (goal.at.returns-else-bits-ge-SIGN c).Start) c.if-exponent-le-EXPONENT_OF_TOP.false c.if-exponent-eq-EXPONENT_OF_INFINITY.false
+    c.nearest_u64_to_f64-r.result (c.nearest_u64_to_f64-r.ensures ∙ ap (λ (n : ℕ). of_int binary64 (pos n)) c.low_bits.ensures) c.if-bits-ge-SIGN.false
