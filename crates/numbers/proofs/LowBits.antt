@@ -1,18 +1,51 @@
 -- The remainder by 2^64 by a float's bits: below 2^64 a float is its own, and from there on it is a whole number, whose lowest 64 bits are left.
-use Rattle.std.proofs.Common.{◌≡◌, ℕ, zero, suc, ◌+◌, ◌-◌, ◌*◌, ◌/◌, ◌%◌, ◌^◌, ◌<◌, ◌≤◌, Bool, true, false, not, cond, T, eqb, leb, ℤ, pos, sym, refl, ap, subst, ◌∙◌}
-use Rattle.std.proofs.Common.{lt_of_lt_of_le, lt_of_le_of_lt, le_of_eq, mod-lt, mod-eq_of_lt, mul_right_comm, mul_assoc, mul-pos, mul-one, mul-lt-mul_of_pos_right, lt_of_mul-lt-mul_right, arith, lit<, pow_pos, pow_mono, pow-add, shl_lt, eq-eqb, ne_eqb}
+use Rattle.std.proofs.Common.{◌≡◌, ℕ, zero, suc, ◌+◌, ◌-◌, ◌*◌, ◌/◌, ◌%◌, ◌^◌, ◌<◌, ◌≤◌, Bool, true, false, not, ◌&&◌, cond, T, eqb, ltb, leb, pos, sym, refl, ap, subst, ◌∙◌}
+use Rattle.std.proofs.Common.{lt_of_lt_of_le, lt_of_le_of_lt, le_of_eq, mod-lt, mod-eq_of_lt, mul_right_comm, mul_assoc, mul-one, mul-lt-mul_of_pos_right, lt_of_mul-lt-mul_right, arith, pow_pos, pow_mono, pow-add, shl_lt, eq-eqb}
 use native.Mathlib.Nat.{eq_of_mul-eq-mul_right, mul-mod_left}
 use borrow.Author.Tests.{le-leb, lt-leb}
-use lib.Ieee.{Float, nan, inf, fin, binary64, up, down, round, rem, neg, ne, is_nan, fits, odd, of_int, of_fields, of_bits, to_bits}
-use lib.Ieee.Fits.{down_pos, rem-fits}
-use lib.Ieee.Bits.{of_bits-to_bits, of_bits-fits}
+use lib.Ieee.{Float, nan, inf, fin, binary64, up, down, units, round, rem, neg, ne, eq, is_nan, fits, odd, of_int, of_fields, of_bits, to_bits}
+use lib.Ieee.Fits.{down_pos, rem-fits, round_is}
+use lib.Ieee.Bits.{of_bits-to_bits}
 use lib.Ieee.Exact.{HasValue, odd_sign}
 use lib.Ieee.Scale.{round_same}
-use Rattle.core.proofs.num.Values.{same_value, neg-round}
-use Rattle.core.proofs.num.Patterns.{differs}
-use Rattle.single.proofs.Packing.{rescale}
+use Rattle.single.proofs.Packing.{rescale, bits_of}
 use Rattle.numbers.proofs.Integers.{fields_value}
 use Rattle.numbers.proofs.Remainders.{two64, left, scaled, held, remainder}
+
+-- ---- of floats
+
+-- what a comparison of a float with itself says
+pub differs : (x : Float) → ne x x ≡ is_nan x
+unfolding ne eq is_nan
+differs nan = refl
+differs (inf true) = refl
+differs (inf false) = refl
+differs (fin true m e) = ap (λ (b : Bool). not (b && true)) (eq-eqb (m * up e * down e) _ refl)
+differs (fin false m e) = ap (λ (b : Bool). not (b && true)) (eq-eqb (m * up e * down e) _ refl)
+
+pub a_number : (x : Float) → ne x x ≡ false → T (not (is_nan x))
+a_number x h = subst (λ (b : Bool). T (not b)) (sym (sym (differs x) ∙ h)) tt
+
+neg-odd : (d q k l : ℕ) → neg (odd d false q k l) ≡ odd d true q k l
+unfolding neg odd
+neg-odd d zero k l = refl
+neg-odd d (suc q) k l = refl
+
+neg-units : (q k : ℕ) → neg (units binary64 false q k) ≡ units binary64 true q k
+unfolding units neg
+neg-units q k = go (ltb (q * 2 ^ k) (2 ^ 2098))
+  where
+    go : (b : Bool) → neg (cond b (odd 54 false q k 1074) (inf false)) ≡ cond b (odd 54 true q k 1074) (inf true)
+    go true = neg-odd 54 q k 1074
+    go false = refl
+
+neg-round : (a c : ℕ) → neg (round binary64 false a c) ≡ round binary64 true a c
+neg-round a c = ap neg (round_is binary64 false a c) ∙ neg-units _ _ ∙ sym (round_is binary64 true a c)
+
+-- two floats of one value are one float
+same_value : (x y : Float) (s : Bool) (a : ℕ) → T (fits binary64 x) → T (fits binary64 y) → HasValue x s a (2 ^ 1074) → HasValue y s a (2 ^ 1074) → x ≡ y
+same_value x y s a p q v w =
+    sym (of_bits-to_bits binary64 x p) ∙ ap (of_bits binary64) (bits_of binary64 x s a v ∙ sym (bits_of binary64 y s a w)) ∙ of_bits-to_bits binary64 y q
 
 -- ---- of a value a / c
 own : (y : Float) (s : Bool) (a c : ℕ) → T (fits binary64 y) → 0 < c → HasValue y s a c → a < 2 ^ 64 * c → rem binary64 y two64 ≡ y
@@ -24,9 +57,9 @@ own (fin t m e) s a c f p v l =
     lt_of_mul-lt-mul_right c (lt_of_le_of_lt (le_of_eq v.1) (lt_of_lt_of_le (mul-lt-mul_of_pos_right l (down_pos e)) (le_of_eq (mul_right_comm (2 ^ 64) c d)))) in
     let same : left m e ≡ m * up e = mod-eq_of_lt less in
     let h = held t m e f in
-    let units = h.q * 2 ^ h.j in
-    let given : HasValue (rem binary64 (fin t m e) two64) t units (2 ^ 1074) = rescale _ t (left m e) d units (2 ^ 1074) (down_pos e) (sym h.is) (remainder t m e f) in
-    same_value binary64 (rem binary64 (fin t m e) two64) (fin t m e) t units (rem-fits binary64 (fin t m e) two64 f) f given (refl, ap (λ (n : ℕ). n * 2 ^ 1074) (sym same) ∙ h.is)
+    let n = h.q * 2 ^ h.j in
+    let given : HasValue (rem binary64 (fin t m e) two64) t n (2 ^ 1074) = rescale _ t (left m e) d n (2 ^ 1074) (down_pos e) (sym h.is) (remainder t m e f) in
+    same_value (rem binary64 (fin t m e) two64) (fin t m e) t n (rem-fits binary64 (fin t m e) two64 f) f given (refl, ap (λ (k : ℕ). k * 2 ^ 1074) (sym same) ∙ h.is)
 
 -- of m * 2 ^ j / 2 ^ 1074, where that is whole
 whole : (y : Float) (s : Bool) (m j : ℕ) → 1074 ≤ j → HasValue y s (m * 2 ^ j) (2 ^ 1074) → rem binary64 y two64 ≡ round binary64 s (m * 2 ^ (j - 1074) % 2 ^ 64) 1
@@ -121,4 +154,4 @@ module _ (x : Float) (f : T (fits binary64 x)) where
 
     pub negative : 2 ^ 63 ≤ b → neg r ≡ rem binary64 x two64
     unfolding of_int
-    negative n = ap neg is ∙ neg-round binary64 ((2 ^ 52 + t) * 2 ^ (exponent - 1075) % 2 ^ 64) 1 ∙ ap (λ (z : Bool). round binary64 z ((2 ^ 52 + t) * 2 ^ (exponent - 1075) % 2 ^ 64) 1) (sym (le-leb (2 ^ 63) b n)) ∙ large l h
+    negative n = ap neg is ∙ neg-round ((2 ^ 52 + t) * 2 ^ (exponent - 1075) % 2 ^ 64) 1 ∙ ap (λ (z : Bool). round binary64 z ((2 ^ 52 + t) * 2 ^ (exponent - 1075) % 2 ^ 64) 1) (sym (le-leb (2 ^ 63) b n)) ∙ large l h
