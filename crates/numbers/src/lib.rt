@@ -126,7 +126,8 @@ fn low_bits(bits: u64) -> u64
     0
 }
 
-// The remainder by 2^64, by the float's bits: the operator `%` would take it from the C library, and not from each version of it.
+// The remainder by 2^64, by the float's bits: for `%` Rattle's own compiler calls the C library's fmod, at a version that not every
+// machine has.
 fn remainder(x: f64) -> f64
     ensures { result ≡ rem binary64 x (fin false 1 (pos 64)) }
 {
