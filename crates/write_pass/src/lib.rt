@@ -1,4 +1,6 @@
 // A pass over a format: every check, the totals, and where it is asked for, the record.
+#![tactic(auto)]
+
 ghost use Rattle.std.specs.Prelude.{◌≡◌, true, cond, ◌+◌, ◌-◌, ◌^◌, ◌<◌, ◌≤◌, T, length, drop};
 ghost use Rattle.definition.specs.Lists.{values};
 ghost use Rattle.definition.specs.Writing as writing;
