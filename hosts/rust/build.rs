@@ -37,7 +37,7 @@ fn link(here: &Path) {
     let archive = here.join(setting.unwrap_or_else(|| "../../target/staticlib/libdigribbon.a".into()));
     if !archive.is_file() {
         println!(
-            "cargo::error=The archive is missing: there is no file {}. Run `rt staticlib digribbon` in the repository's top folder, or set DIGRIBBON_ARCHIVE.",
+            "cargo::error=The archive is missing: there is no file {}. Run `tools/build archive` in the repository's top folder, or set DIGRIBBON_ARCHIVE.",
             archive.display()
         );
         return;

@@ -3,9 +3,7 @@ use Rattle.std.specs.Prelude.{◌≡◌, ℕ, ◌^◌, min}
 use Rattle.definition.specs.Answers.{Checked, refused, accepted}
 use Rattle.definition.specs.declared.State.{State}
 use Rattle.align.specs.declared.Amount.{Amount}
-use Rattle.align.specs.declared.Amount.TheVariants as Amount
 use Rattle.align.specs.declared.Next.{Next}
-use Rattle.align.specs.declared.Next.TheVariants as Next
 
 abbrev pub amount_of : Amount → Checked ℕ
 amount_of (Amount.Refused k) = refused k

@@ -1,4 +1,6 @@
 // The state: how it is made, what a setting makes of it, its offset in reading, the zeros before an item, and the state after it.
+#![tactic(auto)]
+
 ghost use Rattle.std.specs.Prelude.{◌≡◌, ℕ, ◌+◌, ◌-◌, ◌^◌, ◌<◌, ◌≤◌, min, ◌&&◌, nat_le};
 ghost use Rattle.definition.specs.States as states;
 ghost use Rattle.definition.specs.Reading.{offset_in, at_offset};

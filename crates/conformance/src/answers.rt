@@ -10,7 +10,7 @@ use write::{Packed, string_pack};
 
 // A refusal's number, or 0; a length, and the next position of reading, the place of a tray's record that was refused or the
 // greatest record length, each 0 where there is none.
-#[derive(Drop)]
+#[derive(Clone, Copy)]
 pub struct Answer {
     pub refusal: u8,
     pub length: u64,

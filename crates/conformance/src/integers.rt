@@ -11,7 +11,7 @@ pub fn is_written(v: Vector, data: &[u8], fill: u8) -> bool
 {
     let mut out = [0u8; 16];
     store::put(&mut out, 0, v.size, v.big, v.a, fill);
-    check::same(&out, data)
+    data == out.as_slice()
 }
 
 // The field of an integer or of a float in a value list.
@@ -19,10 +19,10 @@ pub fn is_field(v: Vector, data: &[u8]) -> bool {
     let mut out = [0u8; 16];
     if v.group == b'v' {
         fields::put_integer(&mut out, 0, to_signed(v.a));
-        return check::same(&out, data);
+        return data == out.as_slice();
     }
     fields::put_float(&mut out, 0, v.a);
-    check::same(&out, data)
+    data == out.as_slice()
 }
 
 // An integer, or that it doesn't fit 64 bits.

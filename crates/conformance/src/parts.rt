@@ -2,7 +2,7 @@
 ghost use Rattle.std.specs.Prelude.{◌≡◌, length};
 
 use crate::reader::behind;
-use bytes::scan::find;
+use crate::scan::find;
 
 // What every byte of a result buffer is before a call.
 pub const FILL: u8 = 238;

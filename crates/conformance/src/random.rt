@@ -3,6 +3,7 @@ use crate::answers::{Answer, bound, called, size};
 use crate::parts::{FILL, front, room};
 use crate::reader::{bytes, number, peek};
 use crate::show::{is_filled, print_named};
+use std::io;
 
 // The next state of the generator (xorshift).
 fn stir(x: u64) -> u64 {
@@ -46,7 +47,7 @@ fn put_value(list: &mut [u8], n: usize, option: u8) -> usize {
 }
 
 // A state of the generator, and how many bytes a list has.
-#[derive(Drop)]
+#[derive(Clone, Copy)]
 struct Drawn {
     state: u64,
     n: usize,
@@ -71,7 +72,7 @@ fn draw(alphabet: &[u8], seed: u64, format: &mut [u8], list: &mut [u8]) -> Drawn
 fn writes(format: &[u8], list: &[u8], record: &[u8]) -> bool {
     let mut out = room(FILL);
     let w = called(b'w', format, list, 0, &mut out);
-    (w.refusal == 0) & check::same(front(&out, w.length as usize), record)
+    (w.refusal == 0) & (front(&out, w.length as usize) == record)
 }
 
 // The position that reading data from its start ends at, 0 where reading refuses. The greatest number where the list is not
@@ -108,7 +109,7 @@ fn agrees(format: &[u8], record: &[u8], w: Answer, m: Answer) -> bool {
 
 // The state of the generator; how many formats were measured and written, and for how many the answers disagree with each
 // other.
-#[derive(Drop)]
+#[derive(Clone, Copy)]
 struct Tally {
     state: u64,
     measured: u64,
@@ -135,7 +136,7 @@ fn counted(format: &[u8], list: &[u8], t: Tally) -> Tally {
 
 // The next format.
 fn tried(alphabet: &[u8], mut t: Tally) -> Tally {
-    let mut format = io::buffer();
+    let mut format = [0u8; 4096];
     let mut list = room(0);
     let d = draw(alphabet, t.state, &mut format, &mut list);
     t.state = d.state;
@@ -157,12 +158,12 @@ fn try_all(alphabet: &[u8], seed: u64, count: u64) -> Tally {
     t
 }
 
-pub fn random(alphabet: &[u8], s: &[u8], at: usize) {
+pub fn random(rt: &impl Print, alphabet: &[u8], s: &[u8], at: usize) -> io::Result<()> {
     let seed = number(s, at, b'/', 1);
     let count = number(s, seed.at, b'/', 1);
     let t = try_all(alphabet, seed.value, count.value);
-    print_named(b": formats ", count.value);
-    print_named(b", measured ", t.measured);
-    print_named(b", written ", t.written);
-    print_named(b", disagree ", t.disagree);
+    print_named(rt, b": formats ", count.value)?;
+    print_named(rt, b", measured ", t.measured)?;
+    print_named(rt, b", written ", t.written)?;
+    print_named(rt, b", disagree ", t.disagree)
 }

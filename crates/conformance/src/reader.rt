@@ -1,7 +1,7 @@
 // Bytes and numbers as a line of text writes them: "AB" for a text's bytes, FE or 0304FE for bytes in hexadecimal, i-2 for
 // the field of an integer in a value list. A `*` and a number behind one of them repeat it. Spaces between them mean
 // nothing. What a buffer has no room for is left out.
-use bytes::scan::find;
+use crate::scan::find;
 
 // The byte at a place, or a line feed past the end.
 pub fn peek(s: &[u8], at: usize) -> u8 {
@@ -24,7 +24,7 @@ fn digit(b: u8) -> u64 {
 }
 
 // A number, and the place behind it.
-#[derive(Drop)]
+#[derive(Clone, Copy)]
 pub struct Numeral {
     pub value: u64,
     pub at: usize,
@@ -76,7 +76,7 @@ pub fn number(s: &[u8], at: usize, mark: u8, otherwise: u64) -> Numeral {
 }
 
 // What has been read so far.
-#[derive(Drop)]
+#[derive(Clone, Copy)]
 pub struct Reader {
     // The place of the next byte, and what it belongs to: `step` has the kinds.
     pub at: usize,
@@ -215,7 +215,7 @@ pub fn bytes(s: &[u8], at: usize, out: &mut [u8]) -> Reader {
 }
 
 // The arguments of a call: how many bytes its format has, and its list or data, and the places behind them.
-#[derive(Drop)]
+#[derive(Clone, Copy)]
 pub struct Arguments {
     pub format: usize,
     pub list: usize,

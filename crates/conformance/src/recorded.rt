@@ -33,7 +33,7 @@ fn is_answer(s: &[u8], at: usize, a: Answer, out: &[u8]) -> bool {
     marked
         & (e.n as u64 == a.length)
         & has_number(s, e.at, b'/', a.next)
-        & check::same(out, &expected)
+        & (out == expected.as_slice())
 }
 
 // Whether the range at a place is ours: both lengths, or the number of the refusal.

@@ -1,22 +1,23 @@
 // Writes bytes, numbers and value lists to standard output.
-ghost use Rattle.std.specs.Prelude.{◌<◌, ◌≤◌, length};
+ghost use Rattle.std.specs.Prelude.{◌<◌, ◌≤◌, length, IfOk};
 
 use crate::parts::{front, part};
 use crate::reader::{peek, signed};
+use std::io;
 
-pub fn print(text: &[u8]) {
-    io::write_all(1, text);
+pub fn print(rt: &impl Print, text: &[u8]) -> io::Result<()> {
+    rt.write_all(text)
 }
 
-pub fn print_line(line: &[u8]) {
-    print(line);
-    print(b"\n");
+pub fn print_line(rt: &impl Print, line: &[u8]) -> io::Result<()> {
+    print(rt, line)?;
+    print(rt, b"\n")
 }
 
 // A number behind its name.
-pub fn print_named(name: &[u8], n: u64) {
-    print(name);
-    io::print_decimal(1, n);
+pub fn print_named(rt: &impl Print, name: &[u8], n: u64) -> io::Result<()> {
+    print(rt, name)?;
+    rt.print(n)
 }
 
 // A hexadecimal digit, in upper case.
@@ -44,31 +45,32 @@ pub fn is_filled(s: &[u8], at: usize, b: u8) -> bool {
 }
 
 // Prints the byte at a place, or more than eight that are the same by their number; the place behind them.
-fn print_run(s: &[u8], at: usize) -> usize
+fn print_run(rt: &impl Print, s: &[u8], at: usize) -> io::Result<usize>
     requires { at < length s.now }
-    ensures { at < result }
+    ensures { IfOk result (λ end. at < end) }
 {
     let b = peek(s, at);
-    print(&[b' ', digit(b / 16), digit(b % 16)]);
+    print(rt, &[b' ', digit(b / 16), digit(b % 16)])?;
     let end = run_end(s, at, b);
     if end - at > 8 {
-        print_named(b"*", (end - at) as u64);
-        return end;
+        print_named(rt, b"*", (end - at) as u64)?;
+        return Ok(end);
     }
-    at + 1
+    Ok(at + 1)
 }
 
-pub fn print_bytes(s: &[u8]) {
+pub fn print_bytes(rt: &impl Print, s: &[u8]) -> io::Result<()> {
     let mut at = 0;
     while at < s.len() {
-        at = print_run(s, at);
+        at = print_run(rt, s, at)?;
     }
+    Ok(())
 }
 
 // The field of an integer, of its word.
-fn print_integer(word: u64) {
+fn print_integer(rt: &impl Print, word: u64) -> io::Result<()> {
     let minus = word >> 63;
-    print_named(front(b" i-", 2 + minus as usize), signed(word, minus));
+    print_named(rt, front(b" i-", 2 + minus as usize), signed(word, minus))
 }
 
 // The number that the bytes from a place up to another write, the highest first.
@@ -83,23 +85,24 @@ pub fn word_at(s: &[u8], at: usize, end: usize) -> u64 {
 }
 
 // The place behind the field at a place; the field of an integer as a line writes it, another by its bytes.
-fn print_field(s: &[u8], at: usize) -> usize
+fn print_field(rt: &impl Print, s: &[u8], at: usize) -> io::Result<usize>
     requires { at < length s.now }
-    ensures { at < result }
+    ensures { IfOk result (λ end. at < end) }
 {
     let start = at + 3;
     let end = start + (word_at(s, at + 1, start) % 65536) as usize;
     if peek(s, at) == 1 {
-        print_integer(word_at(s, start, end));
-        return end;
+        print_integer(rt, word_at(s, start, end))?;
+        return Ok(end);
     }
-    print_bytes(part(s, at, end));
-    end
+    print_bytes(rt, part(s, at, end))?;
+    Ok(end)
 }
 
-pub fn print_list(s: &[u8]) {
+pub fn print_list(rt: &impl Print, s: &[u8]) -> io::Result<()> {
     let mut at = 0;
     while at < s.len() {
-        at = print_field(s, at);
+        at = print_field(rt, s, at)?;
     }
+    Ok(())
 }

@@ -11,7 +11,7 @@ use single::{from_single, to_single};
 use values::is_list;
 use words::{sign_byte, to_signed};
 
-#[derive(Drop)]
+#[derive(Clone, Copy)]
 pub struct Vector {
     pub group: u8,
     pub size: usize,

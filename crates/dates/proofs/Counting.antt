@@ -18,14 +18,14 @@ counted_to y m d = days_before_fourth y + days_before_month (fourth y) m + (d - 
 
 -- the days x that a count n stands for; none stands for 29 February 2100
 pub record Stands (n x : ℕ) : Type 0 where
-  pub no_day : n ≡ no_day → ⊥
+  pub other_day : n ≡ no_day → ⊥
   pub moved : x ≡ cond (ltb n no_day) n (n - 1)
 
 before_2100 : (n x : ℕ) → n < no_day → x ≡ n → Stands n x
-before_2100 n x h e = record { no_day = λ q. omega arith; moved = rw (lt-ltb n no_day h) e }
+before_2100 n x h e = record { other_day = λ q. omega arith; moved = rw (lt-ltb n no_day h) e }
 
 after_2100 : (n x : ℕ) → no_day < n → x + 1 ≡ n → Stands n x
-after_2100 n x h e = record { no_day = λ q. omega arith; moved = rw (le-ltb n no_day (omega arith)) (omega arith) }
+after_2100 n x h e = record { other_day = λ q. omega arith; moved = rw (le-ltb n no_day (omega arith)) (omega arith) }
 
 -- ---- 2100
 

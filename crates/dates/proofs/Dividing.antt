@@ -67,10 +67,6 @@ module _ (leap : Bool) (l r : ℕ) (e : cond {A = ℕ} leap 1 2 ≡ l) (a : 1 �
         end = omega (arith, march (suc m) (omega arith) (omega arith));
       }
 
-pub short_year : (leap : Bool) (r : ℕ) → r < cond leap 366 365 → r ≤ 365
-short_year true r h = omega arith
-short_year false r h = omega arith
-
 pub found : (leap : Bool) (r : ℕ) → r < cond leap 366 365 → Found leap r (widened leap r) (month_at (widened leap r))
 found true r h =
     cases (ltb r 60)
@@ -115,14 +111,14 @@ year_found j h =
 -- what it is counted as, which stands for it
 pub record CountOf (n j : ℕ) : Type 0 where
   pub fit : j ≤ 65536
-  pub no_day : j ≡ no_day → ⊥
+  pub other_day : j ≡ no_day → ⊥
   pub back : cond (ltb j no_day) j (j - 1) ≡ n
 
 pub count_of : (n : ℕ) → n ≤ 65535 → CountOf n (counted n)
 count_of n h =
     cases (ltb n no_day)
-    (λ t. let l = ltb-true n no_day t in rw t (record { fit = omega arith; no_day = λ q. omega arith; back = rw t }))
-    (λ t. let l = ltb-false n no_day t in rw t (record { fit = omega arith; no_day = λ q. omega arith; back = rw (le-ltb (n + 1) no_day (omega arith)) (omega arith) }))
+    (λ t. let l = ltb-true n no_day t in rw t (record { fit = omega arith; other_day = λ q. omega arith; back = rw t }))
+    (λ t. let l = ltb-false n no_day t in rw t (record { fit = omega arith; other_day = λ q. omega arith; back = rw (le-ltb (n + 1) no_day (omega arith)) (omega arith) }))
 
 pub date_found : (n j : ℕ) (d : Date) → CountOf n j → InYear (year_at j) (j - days_before_fourth (year_at j)) d → d ≡ date_after n
 date_found n j d c i =
@@ -130,6 +126,6 @@ date_found n j d c i =
     let f = year_found j c.fit in
     let q : counted_to y d.month d.day ≡ j = omega (arith, i.counted, f.start) in
     let e : d ≡ date (2000 + y) d.month d.day = ap (λ (k : ℕ). date k d.month d.day) i.year in
-    let x : is_date (date (2000 + y) d.month d.day) ≡ true = exists y d.month d.day f.to i.from i.to i.day i.within (rw q c.no_day) in
+    let x : is_date (date (2000 + y) d.month d.day) ≡ true = exists y d.month d.day f.to i.from i.to i.day i.within (rw q c.other_day) in
     let s = rw q at (stands y d.month d.day f.to x) in
     e ∙ sym (only_date n _ (record { is_valid = valid _ x (omega arith); counted = s.moved ∙ c.back }))

@@ -3,9 +3,7 @@ use Rattle.std.specs.Prelude.{ℕ}
 use Rattle.definition.specs.Answers.{Checked, refused, accepted}
 use Rattle.calendar.specs.declared.Date.{Date}
 use Rattle.dates.specs.declared.Day.{Day}
-use Rattle.dates.specs.declared.Day.TheVariants as Day
 use Rattle.dates.specs.declared.Dated.{Dated}
-use Rattle.dates.specs.declared.Dated.TheVariants as Dated
 
 abbrev pub day_of : Day → Checked ℕ
 day_of (Day.Refused k) = refused k

@@ -1,5 +1,7 @@
 // Validity dates: the day number of a date, the date of a day number, and the last day of a pass. From 2000 to 2180 every fourth
 // year is a leap year but 2100: days are counted as if it were one too, and those after its February are moved by one.
+#![tactic(auto)]
+
 ghost use Rattle.std.specs.Prelude.{◌≡◌, ◌≤◌, ◌<◌, true, cond};
 ghost use Rattle.calendar.specs.Calendar.{date, is_leap, month_length, days_before_month, days_before, is_date, date_after, months_on, end_before, in_two_bytes, day_number, date_of, last_day};
 ghost use Rattle.calendar.specs.Claims.{number_of};

@@ -6,10 +6,13 @@
 //   date_of     for each day number of the year
 //   last_day    for each day number of the year, and -1 to 14 months from it
 // The last line has digests of the same calls for every choice of arguments among sixteen numbers (`edge`).
+#![tactic(auto)]
+
 ghost use Rattle.std.specs.Prelude.{◌≡◌, ◌*◌, ◌%◌, ◌^◌, ◌≤◌, bit_xor};
 
 use calendar::Date;
 use dates::{Dated, Day, date_of, day_number, last_day};
+use std::io;
 use std::num::{wrapping_add_u64, wrapping_sub_u64};
 use words::to_signed;
 
@@ -118,15 +121,14 @@ fn step(part: Part, start: u64, i: u64, h: u64) -> u64 {
 }
 
 // Prints the digest of a part with n answers.
-fn print_digest(part: Part, start: u64, n: u64) {
+fn print_digest(rt: &impl Print, part: Part, start: u64, n: u64) -> io::Result<()> {
     let mut h = 14695981039346656037;
     let mut i = 0;
     while i < n {
         h = step(part, start, i, h);
         i += 1;
     }
-    io::write_all(1, b" ");
-    io::print_hex(1, h, 16);
+    print!(rt; " {h:016x}")
 }
 
 // 1 for a day number, 0 for a refusal.
@@ -153,45 +155,43 @@ fn count(year: u64) -> u64
 }
 
 // Prints the day number of a year's first day, if it has one, and answers it.
-fn print_first(year: u64) -> u64 {
+fn print_first(rt: &impl Print, year: u64) -> io::Result<u64> {
     match day_number(to_signed(year), 1, 1) {
         Day::Refused(_) => {
-            io::write_all(1, b" -");
-            0
+            print!(rt; " -")?;
+            Ok(0)
         }
         Day::Number(n) => {
-            io::write_all(1, b" ");
-            io::print_decimal(1, n);
-            n
+            print!(rt; " {n}")?;
+            Ok(n)
         }
     }
 }
 
-fn print_year(year: u64) {
-    io::print_decimal(1, year);
-    let first = print_first(year);
+fn print_year(rt: &impl Print, year: u64) -> io::Result<()> {
+    print!(rt; "{year}")?;
+    let first = print_first(rt, year)?;
     let days = count(year);
-    io::write_all(1, b" ");
-    io::print_decimal(1, days);
-    print_digest(Part::Dates, year, 560);
-    print_digest(Part::Days, first, days);
-    print_digest(Part::Passes, first, days * 16);
-    io::write_all(1, b"\n");
+    print!(rt; " {days}")?;
+    print_digest(rt, Part::Dates, year, 560)?;
+    print_digest(rt, Part::Days, first, days)?;
+    print_digest(rt, Part::Passes, first, days * 16)?;
+    println!(rt)
 }
 
-fn print_edges() {
-    io::write_all(1, b"edges");
-    print_digest(Part::EdgeDates, 0, 4096);
-    print_digest(Part::EdgeDays, 0, 16);
-    print_digest(Part::EdgePasses, 0, 256);
-    io::write_all(1, b"\n");
+fn print_edges(rt: &impl Print) -> io::Result<()> {
+    print!(rt; "edges")?;
+    print_digest(rt, Part::EdgeDates, 0, 4096)?;
+    print_digest(rt, Part::EdgeDays, 0, 16)?;
+    print_digest(rt, Part::EdgePasses, 0, 256)?;
+    println!(rt)
 }
 
-fn main() {
+fn main(rt: HostRuntime) -> io::Result<()> {
     let mut year = 1999;
     while year <= 2180 {
-        print_year(year);
+        print_year(&rt, year)?;
         year += 1;
     }
-    print_edges();
+    print_edges(&rt)
 }

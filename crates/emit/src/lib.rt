@@ -1,4 +1,6 @@
 // Puts the bytes of an item into the record, where `put` asks for it.
+#![tactic(auto)]
+
 ghost use Rattle.std.specs.Prelude.{◌≡◌, true, cond, ◌++◌, ◌+◌, ◌≤◌, length, replicate};
 ghost use Rattle.std.proofs.Math.Seq.{paste};
 ghost use Rattle.definition.specs.Bytes.{laid};

@@ -1,6 +1,5 @@
 -- A blank or a setting more at a format's front.
 use Prim.Native.Nat.{ℕ, ◌+◌}
-use native.Mathlib.Omega.{arith}
 use mathlib.Core.Path.{◌≡◌, refl}
 use mathlib.Core.List.{List, []}
 use mathlib.Core.Option.{some}
@@ -13,20 +12,12 @@ use Rattle.definition.specs.Writing.{output, nothing, ◌⊕◌, place, write_op
 use Rattle.definition.specs.declared.State.{State}
 use Rattle.definition.specs.declared.Setting.{Setting}
 use Rattle.definition.specs.declared.Op.TheVariants.{Blank, Set}
-use Rattle.laws.proofs.Calls.{start_sound, set_sound}
+use Rattle.laws.proofs.Calls.{set_sound}
 use Rattle.laws.proofs.Cutting.{nothing_left, nothing_right, join_assoc}
 use Rattle.laws.proofs.Ops.{Sizes}
 use Rattle.format.specs.Steps.{next_at}
-use Rattle.format.proofs.Walking.{Walked, valid, ahead, walk_none, walk_on}
+use Rattle.format.proofs.Walking.{Walked, valid, ahead, walk_on}
 use Rattle.front.specs.Leading.{Leads}
-
-pub leads_none : (t : Table) (f : List ℕ) (at : ℕ) (s : State) → at ≡ 0 → s ≡ start → Leads t f at s
-leads_none t f at s e g = record {
-  within = omega arith;
-  sound = rw g start_sound;
-  items = 0;
-  same = λ vs. rw g (walk_none write_op nothing ◌⊕◌ nothing_left nothing_right join_assoc t f at (place start vs) e).is;
-}
 
 module _ {t : Table} {f : List ℕ} {at : ℕ} {s : State} (w : Leads t f at s) where
   -- how far writing has come with values vs

@@ -53,7 +53,7 @@ pub record Needed : Type 0 where
   pub no_part : (in_turn start (4 ∷ []) [] ≡ accepted (record { next = start; bytes = []; used = 0; items = 0 })) × (total_of (pack_continued start [] (4 ∷ []) []) ≡ refused 21)
   -- of `Returned`, a state that was returned: another one may be refused by 21
   pub not_returned : (pack_continued (state false 3 0) [] [] []).answer ≡ refused 21
-  -- of `Rooms`, no refusal but 22: with a byte more, `short-record` is accepted
+  -- of `Rooms`, no refusal but 22: with a byte more, `short_record` is accepted
   pub room_for_record : (string_pack (bytes "h") (one (pos 7)) (room 2)).answer ≡ accepted 2
   -- of `Decimals`, at most twenty digits: of 10^20, twenty zeros are printed
   pub digits_lost : value 0 (decimal (10 ^ 20)) ≡ 0

@@ -22,7 +22,7 @@ pub record Needed : Type 0 where
   pub no_bytes : (packsize_range (bytes "z") wide ≡ accepted (range 65537 65537)) × ((pick : Range → ℕ) → Reached pick (bytes "z") wide 65537 → ⊥)
   -- of `between`, texts within the pairs: "AB" has two bytes, and with its zero the record has three
   pub outside : (packsize_range (bytes "z") (0 ∷ 0 ∷ 0 ∷ 1 ∷ []) ≡ accepted (range 1 2)) × ((string_pack (bytes "z") (list_of (text (bytes "AB") ∷ [])) (room 3)).answer ≡ accepted 3)
-  -- of `all-least` and `all-greatest`, texts of just these lengths: "A" lies between, and its record has two bytes
+  -- of `all_least` and `all_greatest`, texts of just these lengths: "A" lies between, and its record has two bytes
   pub neither : (packsize_range (bytes "z") (0 ∷ 0 ∷ 0 ∷ 2 ∷ []) ≡ accepted (range 1 3)) × ((string_pack (bytes "z") (list_of (text (bytes "A") ∷ [])) (room 2)).answer ≡ accepted 2)
   -- of `fixed`, whole pairs, and a format without z and s
   pub part : (string_packsize (bytes "b") ≡ accepted 1) × (packsize_range (bytes "b") (0 ∷ []) ≡ refused 21)

@@ -9,9 +9,8 @@ use lib.Dec.{ltb, eqb}
 use lib.ListN.{length, take, drop, get_or, length-take, drop_of_length-le}
 use lib.Seq.{take-suc, drop-cons}
 use borrow.Table.Steps.{cases}
-use borrow.Author.Tests.{le-leb, lt-leb, lt-ltb, le-ltb, ltb-true, ne_eqb}
+use borrow.Author.Tests.{lt-leb, lt-ltb, le-ltb, ltb-true, ne_eqb}
 use Rattle.definition.specs.Answers.{Checked, refused}
-use Rattle.definition.specs.Calls.{string_packsize}
 use Rattle.definition.specs.Program.{first_line, line, printed}
 use Rattle.line.specs.Lines.{settled, Stands, answer_to}
 
@@ -69,25 +68,19 @@ stands s q t =
     (λ long. let h = ltb-true 4096 (length (first_line s)) long in printed_long (s ++ t) (omega (arith, line_grows s t)) ∙ sym (printed_long s h))
     (λ short. printed_line (s ++ t) s (line_complete s t (ltb-true (length (first_line s)) (length s) (rw short at q))))
 
--- ---- the answer, at the length n of the first line
+-- ---- at the length n of the first line
 module _ (s : List ℕ) (n : ℕ) (e : take n s ≡ first_line s) (h : n ≤ length s) where
   length_line : length (first_line s) ≡ n
   length_line = ap length (sym e) ∙ length-take n s ∙ omega arith
 
-  pub answer_long : 4096 < n → refused 22 ≡ answer_to s
-  answer_long l = rw (length_line, lt-leb n 4096 l)
-
-  pub answer_short : n ≤ 4096 → string_packsize (take n s) ≡ answer_to s
-  answer_short l = rw (length_line, le-leb n 4096 l, e)
-
   -- the two tests of is_settled
-  told : (r : Bool) → r ≡ settled s → (r ≡ settled s) × (r ≡ true → Stands s)
-  told r q = (q, λ t. stands s (sym q ∙ t))
+  told : (r : Bool) → r ≡ settled s → r ≡ true → Stands s
+  told r q t = stands s (sym q ∙ t)
 
-  pub settled_long : 4096 < n → (ltb 4096 n ≡ settled s) × (ltb 4096 n ≡ true → Stands s)
+  pub settled_long : 4096 < n → ltb 4096 n ≡ true → Stands s
   settled_long l = told (ltb 4096 n) (rw (length_line, lt-ltb 4096 n l))
 
-  pub settled_short : n ≤ 4096 → (ltb n (length s) ≡ settled s) × (ltb n (length s) ≡ true → Stands s)
+  pub settled_short : n ≤ 4096 → ltb n (length s) ≡ true → Stands s
   settled_short l = told (ltb n (length s)) (rw (length_line, le-ltb 4096 n l))
 
 -- ---- what is printed

@@ -1,6 +1,6 @@
 -- The integer that a float equals, by the float's bits: below 1 only 0 has one, and from 2 ^ 64 on none has. Between, with the exponent x, the
 -- float is its significand, the leading bit at 2 ^ 63, divided by 2 ^ (1086 - x), and it is whole where nothing is left.
-use Rattle.std.proofs.Common.{◌≡◌, ℕ, zero, suc, ◌+◌, ◌-◌, ◌*◌, ◌/◌, ◌%◌, ◌^◌, ◌<◌, ◌≤◌, Bool, true, false, cond, eqb, leb, pos, sym, refl, ap, ◌∙◌, le_trans, lt_of_lt_of_le, le-add_right, lt_of_le_of_lt, mul-le-mul_right, mod-lt, mod-eq_of_lt, mul-pos, one-mul, div-add-mod', le-div_iff_mul-le, zero-mul, mul_right_comm, div-mul-le_self, arith, lit≤, pow_pos, pow_mono, pow-add, shl_lt, le-ltb, eq-eqb, ne_eqb, eqb-true}
+use Rattle.std.proofs.Common.{◌≡◌, ℕ, zero, suc, ◌+◌, ◌-◌, ◌*◌, ◌/◌, ◌%◌, ◌^◌, ◌<◌, ◌≤◌, Bool, true, false, cond, eqb, leb, pos, sym, refl, ap, ◌∙◌, le_trans, lt_of_lt_of_le, le-add_right, lt_of_le_of_lt, mul-le-mul_right, mod-lt, mod-eq_of_lt, mul-pos, div-add-mod', le-div_iff_mul-le, zero-mul, mul_right_comm, div-mul-le_self, arith, lit≤, pow_pos, pow_mono, pow-add, shl_lt, le-ltb, eq-eqb, ne_eqb, eqb-true}
 use mathlib.Core.Option.{none, some}
 use native.Mathlib.Nat.{eq_of_mul-eq-mul_right, div-eq_of_lt}
 use borrow.Author.Tests.{eqb-false}
@@ -164,9 +164,3 @@ module _ (b : ℕ) where
   pub at_whole : 1023 ≤ x → x ≤ 1086 → {p : Bool} → eqb (whole x t * 2 ^ shift x % 2 ^ 64) (significand t) ≡ p → integer_where p (with_sign sign (whole x t)) ≡ as_integer (float b)
   unfolding of_bits
   at_whole l h e = ap (λ (p : Bool). integer_where p (with_sign sign (whole x t))) (sym e ∙ exact_is) ∙ sym (in_range sign t t_lt x l h)
-
-  pub whole_pos : 1023 ≤ x → 0 < whole x t
-  whole_pos l =
-      let e : shift x ≤ 63 = omega arith in
-      let h : 2 ^ shift x ≤ significand t = le_trans (pow_mono e) (le-add_right (2 ^ 63) (t * 2 ^ 11)) in
-      (le-div_iff_mul-le (pow_pos (shift x))).1 (rw (one-mul (2 ^ shift x)) h)

@@ -6,7 +6,6 @@ use Rattle.definition.specs.Values.{Value, integer, float, text, other, wrapped}
 use Rattle.numbers.specs.declared.Found.{Found}
 use Rattle.numbers.specs.declared.Found.TheVariants.{Integer, Nothing}
 use Rattle.numbers.specs.declared.Number.{Number}
-use Rattle.numbers.specs.declared.Number.TheVariants as Number
 
 abbrev pub integer_found : Found → Option ℤ
 integer_found (Integer z) = some z

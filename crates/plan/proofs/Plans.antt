@@ -4,12 +4,11 @@ use native.Mathlib.Omega.{arith}
 use mathlib.Core.Path.{◌≡◌, refl, sym, ap, ◌∙◌, subst}
 use mathlib.Core.Bool.{true, false}
 use mathlib.Core.List.{List, [], ◌∷◌, ◌++◌, map}
-use lib.Dec.{T, leb, eqb→eq, leb→le, ltb→lt}
+use lib.Dec.{leb}
 use lib.ListN.{length, take, drop}
 use borrow.Author.Tests.{leb-true}
 use Rattle.definition.specs.Answers.{refused, accepted}
 use Rattle.definition.specs.Bytes.{laid}
-use Rattle.definition.specs.Calls.{at_most_63}
 use Rattle.definition.specs.Ops.{is_power}
 use Rattle.definition.specs.Values as definition
 use Rattle.definition.specs.Values.{text}
@@ -20,18 +19,12 @@ use Rattle.definition.specs.Writing.{byte, pads, output, place, early, write_fie
 use Rattle.definition.specs.declared.State.{State}
 use Rattle.definition.specs.declared.Setting.{Setting}
 use Rattle.definition.specs.declared.Kind.{Kind}
-use Rattle.definition.specs.declared.Kind.TheVariants.{SmallSigned, SmallUnsigned, Signed, Unsigned, LuaInteger, LuaUnsigned, Size, Single, Double}
 use Rattle.definition.specs.declared.Field.{Field}
-use Rattle.definition.specs.declared.Field.TheVariants as Field
 use Rattle.definition.specs.declared.Op.{Op}
-use Rattle.definition.specs.declared.Op.TheVariants as Op
-use Rattle.laws.proofs.Answers.{same, bound, passed, both_parts}
+use Rattle.laws.proofs.Answers.{same, bound, passed}
 use Rattle.laws.proofs.Bytes.{length_laid}
-use Rattle.laws.proofs.Calls.{Sound}
-use Rattle.laws.proofs.Fields.{valid_field}
-use Rattle.laws.proofs.Numbers.{valid_size}
 use Rattle.laws.proofs.Fills.{fill_of_lem}
-use Rattle.laws.proofs.Ops.{power_least, power_most, valid_op}
+use Rattle.laws.proofs.Ops.{power_least, power_most}
 use Rattle.laws.proofs.Steps.{room_longer}
 use Rattle.values.specs.Meaning.{meaning, FieldRead}
 use Rattle.values.specs.declared.Field.TheVariants as Found
@@ -41,10 +34,9 @@ use Rattle.word.specs.Words.{fill_of, Says}
 use Rattle.plan.specs.Texts.{first_text, TextAt, TextRead}
 use Rattle.plan.specs.Plans.{wrote, Encoded, Wrote, Padded, ItemPlan, ItemAt, NumberPlan, BytesPlan}
 use Rattle.plan.specs.declared.item.Plan.{Plan}
-use Rattle.plan.specs.declared.item.Plan.TheVariants as Plan
 use Rattle.plan.specs.declared.text.Text.TheVariants as Text
 use Rattle.word.specs.declared.Word.TheVariants as Word
-use Rattle.plan.proofs.Texts.{within_to_16, TextField, no_text}
+use Rattle.plan.proofs.Texts.{TextField, no_text}
 
 -- ---- padding is below 16
 
@@ -57,9 +49,6 @@ padding_lt s n p e =
   where
     below : (a : ℕ) → is_power a ≡ true → fill a s.length < 16
     below a h = omega (arith, (fill_of_lem a s.length (power_least a h)).below, power_most a h)
-
-pub sound_length : (s : State) → Sound s → s.length ≤ 2 ^ 63 - 1
-sound_length s h = leb-true s.length (2 ^ 63 - 1) (both_parts (is_power s.limit) (at_most_63 s.length) h).1
 
 -- ---- 9
 no_room : (s : State) (n : ℕ) → leb (s.length + n) (2 ^ 63 - 1) ≡ false → longer s n ≡ refused 9
@@ -131,17 +120,6 @@ module _ (l : List ℕ) (s : State) (vs : List definition.Value) (f : Field) (p 
   }
 
 -- ---- numbers
-pub size_small : (k : Kind) (n : ℕ) → T (valid_size k n) → n ≤ 16
-size_small SmallSigned n h = omega (arith, leb→le n 8 h)
-size_small SmallUnsigned n h = omega (arith, ltb→lt n 8 h)
-size_small Signed n h = within_to_16 n h
-size_small Unsigned n h = within_to_16 n h
-size_small LuaInteger n h = omega (arith, eqb→eq n 8 h)
-size_small LuaUnsigned n h = omega (arith, eqb→eq n 8 h)
-size_small Size n h = omega (arith, leb→le n 8 h)
-size_small Single n h = omega (arith, eqb→eq n 4 h)
-size_small Double n h = omega (arith, eqb→eq n 8 h)
-
 module _ (s : State) (p : ℕ) (k : Kind) (n : ℕ) (v : Value) (next : ℕ) where
   pub number_refused : (j : ℕ) → ((l : List ℕ) → Says n (word k n (meaning l v)) (Word.Refused j)) → NumberPlan s p k n v next (Plan.Refused j)
   unfolding encode
@@ -220,15 +198,6 @@ chars_room s n e = room_longer s n e
 -- ---- an item, by what it is
 pub of_op : (l : List ℕ) (at : ℕ) (s : State) (o q : Op) (r : Plan) → ItemAt l at s q r → o ≡ q → ItemAt l at s o r
 of_op l at s o q r h e = subst (λ (x : Op). ItemAt l at s x r) (sym e) h
-
-pub op_as : (o q : Op) → T (valid_op o) → o ≡ q → T (valid_op q)
-op_as o q h e = subst (λ (x : Op). T (valid_op x)) e h
-
-pub field_as : (f g : Field) → T (valid_field f) → f ≡ g → T (valid_field g)
-field_as f g h e = subst (λ (x : Field). T (valid_field x)) e h
-
-pub of_field_lem : (l : List ℕ) (at : ℕ) (s : State) (f g : Field) (r : Plan) → ItemAt l at s (Op.Put g) r → f ≡ g → ItemAt l at s (Op.Put f) r
-of_field_lem l at s f g r h e = subst (λ (x : Field). ItemAt l at s (Op.Put x) r) (sym e) h
 
 pub skips : (l : List ℕ) (at : ℕ) (s : State) → ItemAt l at s Op.Blank Plan.Skip
 unfolding write_op

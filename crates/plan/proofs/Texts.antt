@@ -1,18 +1,13 @@
 -- The bytes of a text option are what the definition encodes, and without a text there are 11 and 12.
 use Prim.Native.Nat.{ℕ, suc, ◌+◌, ◌-◌, ◌^◌, ◌≤◌, ◌<◌}
 use native.Mathlib.Omega.{arith}
-use mathlib.Core.Path.{◌≡◌, refl, sym, ap, ◌∙◌, subst}
+use mathlib.Core.Path.{◌≡◌, sym, ap, ◌∙◌, subst}
 use mathlib.Core.Bool.{Bool, true, false, ◌||◌, or-true}
-use mathlib.Core.List.{List, [], ◌∷◌}
-use mathlib.Core.Logic.{⊎_elim}
-use mathlib.Core.Option.{none}
-use lib.Dec.{T, leb, ltb, leb→le}
-use mir.Facts.{and_yes}
+use mathlib.Core.List.{List, ◌∷◌}
+use lib.Dec.{T, ltb}
 use lib.ListN.{length, take, drop, get_or, replicate, length-append, length-drop, length-replicate}
 use lib.Seq.{length-take-le, drop-cons}
-use types.Run.{OneOf}
-use denote.Enum.Declared.{tag_of}
-use borrow.Author.Tests.{leb-true, leb-false, le-leb, lt-leb, lt-ltb, le-ltb, eq-eqb, ne_eqb}
+use borrow.Author.Tests.{le-leb, lt-leb, lt-ltb, eq-eqb, ne_eqb}
 use Rattle.definition.specs.Answers.{refused, accepted, or_else}
 use Rattle.definition.specs.Bytes.{laid}
 use Rattle.definition.specs.Ops.{within16}
@@ -21,32 +16,15 @@ use Rattle.definition.specs.Values.{text, as_bytes}
 use Rattle.definition.specs.Lists.{values}
 use Rattle.definition.specs.Fields.{encode, has_zero}
 use Rattle.definition.specs.declared.Field.{Field}
-use Rattle.definition.specs.declared.Field.TheVariants as Field
 use Rattle.laws.proofs.Bytes.{pow_le, length_laid}
 use Rattle.laws.proofs.Numbers.{within_from_1}
 use Rattle.values.specs.Meaning.{meaning, Inside, FieldRead}
 use Rattle.values.specs.declared.Field.TheVariants as Found
 use Rattle.values.specs.declared.Value.{Value}
-use Rattle.values.specs.declared.Value.TheVariants as Value
 use Rattle.values.proofs.Fields.{takes_none, takes_first}
-use Rattle.values.specs.contracts.Value.{the_type}
 use Rattle.plan.specs.Texts.{first_text, TextOf, TextAt, TextRead}
 use Rattle.store.specs.Texts.{text_bytes, counted_bytes}
 use Rattle.plan.specs.declared.text.Text.{Text}
-use Rattle.plan.specs.declared.text.Text.TheVariants as Text
-
--- ---- which value is a text
-
-text_tag : OneOf (0 ∷ 1 ∷ 2 ∷ 4 ∷ []) 3 → ⊥
-text_tag h = ⊎_elim (λ e. omega arith) (λ h. ⊎_elim (λ e. omega arith) (λ h. ⊎_elim (λ e. omega arith) (λ e. omega arith) h) h) h
-
--- where a `let .. else` finds no text
-pub no_bytes : (v : Value) → OneOf (0 ∷ 1 ∷ 2 ∷ 4 ∷ []) (tag_of the_type v) → (l : List ℕ) → as_bytes (meaning l v) ≡ none
-no_bytes (Value.Integer z) h l = refl
-no_bytes (Value.Float x) h l = refl
-no_bytes (Value.NotANumber b) h l = refl
-no_bytes (Value.Text start n) h l = absurd (text_tag h)
-no_bytes Value.Other h l = refl
 
 -- ---- the text at an offset
 module _ (l : List ℕ) (at : ℕ) where
@@ -111,17 +89,7 @@ module _ (o : Bool) {l : List ℕ} {at start n next : ℕ} (x : TextAt l at star
   unfolding encode
   counted_bytes_lem m h = rw (found_size, h)
 
-pub within_to_16 : (n : ℕ) → T (within16 n) → n ≤ 16
-within_to_16 n h = leb→le n 16 (and_yes (leb 1 n) (leb n 16) h).1
-
--- the length of a text of a list fits all sizes but one byte
-pub count_one : (m n : ℕ) → m ≡ 1 → leb n 255 ≡ ltb n (256 ^ m)
-count_one m n e = rw e (go (leb n 255) refl)
-  where
-    go : (t : Bool) → leb n 255 ≡ t → t ≡ ltb n 256
-    go true h = sym (lt-ltb n 256 (omega (arith, leb-true n 255 h)))
-    go false h = sym (le-ltb n 256 (leb-false n 255 h))
-
+-- two bytes or more say the length of every text of a list
 pub count_more : (m n : ℕ) → T (within16 m) → n ≤ 65535 → (m ≡ 1 → ⊥) → true ≡ ltb n (256 ^ m)
 count_more m n w h other-size = sym (lt-ltb n (256 ^ m) (omega (arith, pow_le 2 m (omega (arith, within_from_1 m w, other-size)))))
 

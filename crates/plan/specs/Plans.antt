@@ -10,9 +10,7 @@ use Rattle.definition.specs.Writing.{byte, pads, Output, output, nothing, Place,
 use Rattle.definition.specs.declared.State.{State}
 use Rattle.definition.specs.declared.Kind.{Kind}
 use Rattle.definition.specs.declared.Field.{Field}
-use Rattle.definition.specs.declared.Field.TheVariants as Field
 use Rattle.definition.specs.declared.Op.{Op}
-use Rattle.definition.specs.declared.Op.TheVariants as Op
 use Rattle.values.specs.Meaning.{meaning}
 use Rattle.values.specs.declared.Value.{Value}
 use Rattle.store.specs.Texts.{text_bytes, counted_bytes}

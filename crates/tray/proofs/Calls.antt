@@ -7,7 +7,7 @@ use lib.ListN.{length, drop}
 use borrow.Author.Tests.{lt-leb}
 use Rattle.definition.specs.Trays.{Placed, records_of, tray_into, pack_tray}
 use Rattle.laws.proofs.Calls.{into_fits}
-use Rattle.tray.specs.Walks.{Counted, Told, Fits, put_in, tray_call_of}
+use Rattle.tray.specs.Walks.{Counted, Told, put_in, tray_call_of}
 use Rattle.tray.specs.declared.Tray.{Tray}
 use Rattle.tray.specs.declared.Tray.TheVariants as Tray
 
@@ -33,9 +33,6 @@ module _ (f r b : List ℕ) {w : Placed (List ℕ)} (are : w ≡ records_of f r)
     module _ (k : n ≤ length g) where
       exact : length counted.bytes ≡ n
       exact = omega (arith, counted.counts, ap length kept)
-
-      pub fits : Fits w (length g)
-      fits = record { bytes = counted.bytes; is = counted.is; room = omega (arith, exact) }
 
       -- the second walk makes d of it
       pub filled_call : {d : List ℕ} → d ≡ put_in g w.answer → tray_call_of (Tray.Length n) d ≡ pack_tray f r b

@@ -18,12 +18,12 @@ use Rattle.laws.proofs.Answers.{never, same, bound, true_not_false}
 use Rattle.laws.proofs.Calls.{length_record, refused_bind}
 use Rattle.laws.proofs.Refusals.{By23, low, lists_23}
 use Rattle.laws.proofs.Runs.{following}
-use Rattle.laws.proofs.Trays.{behind_none, behind_behind}
+use Rattle.laws.proofs.Trays.{behind_behind}
 use Rattle.values.specs.Meaning.{is_accepted}
 use Rattle.align.specs.Amounts.{SameTo63}
 use Rattle.write_pass.specs.Walks.{summed}
 use Rattle.runs.specs.Entries.{Stands}
-use Rattle.tray.specs.Walks.{bytes_from, tray_from, refused_at, Counted, Fits, put_in, RecordFits}
+use Rattle.tray.specs.Walks.{bytes_from, tray_from, refused_at, Counted, put_in, RecordFits}
 
 -- ---- the first walk
 
@@ -35,22 +35,10 @@ pub record Checking (s : State) (f r : List ℕ) (at p total : ℕ) : Type 0 whe
   pub within : at ≤ length r
   pub few : p ≤ at + 1
 
-pub checking_none : (s : State) (f r : List ℕ) → Checking s f r 0 1 0
-checking_none s f r = record {
-  bytes = [];
-  so_far = sym (behind_none (tray_from s f r));
-  counts = refl;
-  within = omega arith;
-  few = omega arith;
-}
-
 module _ {s : State} {f r : List ℕ} {at p total : ℕ} (w : Checking s f r at p total) where
   pub checking_end : lists (drop at r) ≡ accepted [] → Counted (tray_from s f r) total
   unfolding records
   checking_end e = record { bytes = w.bytes; is = w.so_far ∙ rw (e, append-nil w.bytes); counts = w.counts }
-
-  pub checking_damaged : lists (drop at r) ≡ refused 23 → tray_from s f r ≡ placed 0 (refused 23)
-  checking_damaged e = w.so_far ∙ rw e
 
   -- the list at the offset, and the run behind it
   module _ {from next : ℕ} (here : Stands r at from next) where
@@ -88,13 +76,6 @@ module _ {s : State} {f r : List ℕ} {at p total : ℕ} (w : Checking s f r at 
 -- ---- a record's refusal, once it is known whether the run behind it is one
 
 module _ (k p : ℕ) (r : List ℕ) (at : ℕ) where
-  pub refused_true : is_accepted (lists (drop at r)) ≡ true → refused_at k p (lists (drop at r)) ≡ placed p (refused k)
-  refused_true e = go (lists (drop at r)) e
-    where
-      go : (c : Checked (List (List ℕ))) → is_accepted c ≡ true → refused_at k p c ≡ placed p (refused k)
-      go (refused j) e = absurd (true_not_false (sym e))
-      go (accepted ls) e = refl
-
   pub refused_false : is_accepted (lists (drop at r)) ≡ false → refused_at k p (lists (drop at r)) ≡ placed 0 (refused 23)
   refused_false e = go (lists (drop at r)) (lists_23 (drop at r)) e
     where
@@ -116,15 +97,9 @@ pub record Putting (s : State) (f r d : List ℕ) (at end : ℕ) (b : List ℕ) 
   pub room : length done + length left ≤ length d
   pub buffer : b ≡ done ++ drop end d
 
-pub putting_none : {s : State} {f r d : List ℕ} → Fits (tray_from s f r) (length d) → Putting s f r d 0 0 d
-putting_none h = record { done = []; left = h.bytes; place = 1; whole = h.is; so_far = h.is; ends = refl; within = omega arith; room = omega (arith, h.room); buffer = refl }
-
 module _ {s : State} {f r d : List ℕ} {at end : ℕ} {b : List ℕ} (w : Putting s f r d at end b) where
-  pub putting_length : length b ≡ length d
+  putting_length : length b ≡ length d
   putting_length = ap length w.buffer ∙ length-append w.done (drop end d) ∙ omega (arith, length-drop end d, w.room, w.ends)
-
-  pub putting_inside : end ≤ length b
-  putting_inside = omega (arith, putting_length, w.room, w.ends)
 
   -- nothing is left, and so the buffer has all
   pub putting_end : lists (drop at r) ≡ accepted [] → b ≡ put_in d (tray_from s f r).answer
@@ -132,9 +107,6 @@ module _ {s : State} {f r d : List ℕ} {at end : ℕ} {b : List ℕ} (w : Putti
   putting_end e =
       let none : [] ≡ w.left = same (ap (λ (t : Placed (List ℕ)). t.answer) (ap (records_from s w.place f) (sym e) ∙ w.so_far)) in
       w.buffer ∙ rw (w.whole, ← none, append-nil w.done, w.ends)
-
-  pub not_damaged : lists (drop at r) ≡ refused 23 → ⊥
-  not_damaged e = never (ap (λ (t : Placed (List ℕ)). t.answer) (ap (records_from s w.place f) (sym e) ∙ w.so_far))
 
   -- the list at the offset, and the run behind it
   module _ {from next : ℕ} (here : Stands r at from next) where
@@ -170,7 +142,7 @@ module _ {s : State} {f r d : List ℕ} {at end : ℕ} {b : List ℕ} (w : Putti
     lengths : length w.left ≡ length (bytes_from s f list) + length item.more
     lengths = ap length item.parts ∙ length-append (bytes_from s f list) item.more
 
-    pub putting_room : length (bytes_from s f list) ≤ length b - end
+    putting_room : length (bytes_from s f list) ≤ length b - end
     putting_room = omega (arith, putting_length, lengths, w.room, w.ends)
 
     -- the record fits into the part of the buffer from `end` on

@@ -20,7 +20,7 @@ use Rattle.definition.specs.Values.{Value, integer, float, text, other, as_integ
 use Rattle.definition.specs.Fields.{in_signed, in_unsigned, float_by, word}
 use Rattle.definition.specs.declared.Kind.{Kind}
 use Rattle.definition.specs.declared.Kind.TheVariants.{SmallSigned, SmallUnsigned, Signed, Unsigned, LuaInteger, LuaUnsigned, Size, Single, Double}
-use Rattle.words.proofs.Twos.{extent_fits, negative, positive}
+use Rattle.words.proofs.Twos.{extent_fits, positive}
 use Rattle.laws.proofs.Bytes.{pow_le}
 use Rattle.laws.proofs.Numbers.{valid_size}
 use Rattle.words.proofs.Placing.{bits_of_bytes}
@@ -38,7 +38,7 @@ fill_sign (negsuc n) f = ap (λ (t : Bool). cond t 0 255) (le-ltb (2 ^ 64 - 1 - 
 
 pub says_integer : (n b : ℕ) (z : ℤ) {x : Checked ℤ} → mag z < 2 ^ 63 → b ≡ bits (to_z w64 (of_z w64 z)) → x ≡ accepted z → Says n x (Bits b)
 says_integer n b z h e i o =
-    let same : to_z w64 (of_z w64 z) ≡ z = to_z-of_z (record { sfits = h }) in
+    let same : to_z w64 (of_z w64 z) ≡ z = to_z-of_z {w = w64} (record { sfits = h }) in
     rw i (ap (λ (c : ℕ). accepted (laid o n c (fill_of c))) (e ∙ ap bits same) ∙ ap (λ (c : ℕ). accepted (laid o n (bits z) c)) (fill_sign z (record { sfits = h })))
 
 -- up to eight bytes nothing is filled
@@ -79,9 +79,6 @@ double_ltb a b c e = go (ltb a b) refl
 pub signed_narrow : (n : ℕ) (z : ℤ) (e : ℕ) → 1 ≤ n → n < 8 → e ≡ extent z → ltb e ((1 * 2 ^ (8 * n - 1)) % 18446744073709551616) ≡ in_signed n z
 signed_narrow n z e l h i = rw i (ap (ltb (extent z)) (shifted (8 * n - 1) (omega arith)) ∙ double_ltb (extent z) (2 ^ (8 * n - 1)) (256 ^ n) (half n l))
 
-pub unsigned_negative : (n : ℕ) (z : ℤ) → SFits w64 z → lt_z (to_z w64 (of_z w64 z)) (pos 0) ≡ true → in_unsigned n z ≡ false
-unsigned_negative n z f h = ap (in_unsigned n) (negative z f h)
-
 pub unsigned_wide : (n : ℕ) (z : ℤ) → SFits w64 z → lt_z (to_z w64 (of_z w64 z)) (pos 0) ≡ false → 8 ≤ n → in_unsigned n z ≡ true
 unsigned_wide n z f h w = ap (in_unsigned n) (positive z f h) ∙ lt-ltb (extent z) (256 ^ n) (omega (arith, extent_fits z f, pow_le 8 n w))
 
@@ -91,7 +88,7 @@ unsigned_narrow n z e f h l i = rw i (ap (ltb (extent z)) (shifted (8 * n) (omeg
 -- ---- an integer z that was bound from an enum, and passes a test; t is the test as the code makes it
 pub says_ranged : (inside : ℤ → Bool) (n : ℕ) (z : ℤ) {t : Bool} {x : Checked ℤ} (r : Word) → mag z < 2 ^ 63 → x ≡ ranged_or (inside z) z → t ≡ inside (to_z w64 (of_z w64 z)) → Says n (ranged_or t (to_z w64 (of_z w64 z))) r → Says n x r
 says_ranged inside n z r h i e s =
-    let same : to_z w64 (of_z w64 z) ≡ z = to_z-of_z (record { sfits = h }) in
+    let same : to_z w64 (of_z w64 z) ≡ z = to_z-of_z {w = w64} (record { sfits = h }) in
     says_as n r (rw (e, same) at s) i
 
 -- ---- the kinds, by what the value w is
@@ -177,10 +174,3 @@ same_small n w = refl
 
 pub valid_as : {k j : Kind} (n : ℕ) → T (valid_size k n) → k ≡ j → T (valid_size j n)
 valid_as n h e = subst (λ (x : Kind). T (valid_size x n)) e h
-
--- a pattern has at most eight bytes
-pub of_pattern : {k j : Kind} (n : ℕ) (w : Value) (r : Word) → T (valid_size k n) → k ≡ j → (T (valid_size j n) → n ≤ 8) → ((m : ℕ) → m ≤ 8 → Says m (word j m w) r) → Says n (word k n w) r
-of_pattern n w r h e few f = of_kind n w r e (f n (few (valid_as n h e)))
-
-pub of_size : (k : Kind) (m n : ℕ) (w : Value) (r : Word) → Says m (word k m w) r → n ≡ m → Says n (word k n w) r
-of_size k m n w r h i = subst (λ (x : ℕ). Says x (word k x w) r) (sym i) h

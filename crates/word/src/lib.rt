@@ -1,4 +1,6 @@
 // The bits of the integer that a number option writes.
+#![tactic(auto)]
+
 ghost use Rattle.std.specs.Prelude.{◌≡◌, List, ℕ, ◌^◌, ◌≤◌, ◌<◌, T};
 ghost use Rattle.std.proofs.Math.Option.{some};
 ghost use Rattle.definition.specs.Fields as fields;

@@ -1,7 +1,7 @@
 -- The calls of writing: 21 first of all, the first pass, 22, and the bytes that the second pass puts.
 use Prim.Native.Nat.{ℕ, ◌≤◌, ◌<◌}
 use native.Mathlib.Omega.{arith}
-use mathlib.Core.Path.{◌≡◌, refl, sym, ap, ◌∙◌, subst}
+use mathlib.Core.Path.{◌≡◌, refl, sym, ap, ◌∙◌}
 use mathlib.Core.Bool.{true, false, ◌&&◌}
 use mathlib.Core.List.{List, ◌++◌}
 use lib.ListN.{length, drop}
@@ -24,7 +24,7 @@ use Rattle.values.specs.Meaning.{is_accepted}
 use Rattle.values.proofs.Lists.{refused_list}
 use Rattle.write.specs.Answers.{continued_call_of}
 use Rattle.write_pass.specs.Walks.{answer_of}
-use Rattle.write_pass.specs.Walks.{values_of, summed, FitsAt, put_at}
+use Rattle.write_pass.specs.Walks.{values_of, summed, put_at}
 use Rattle.write_pass.specs.declared.Total.{Total}
 use Rattle.write_pass.specs.declared.Total.TheVariants as Total
 use Rattle.write_pass.proofs.Stepping.{list_known}
@@ -82,9 +82,6 @@ module _ (t : Table) (is : t ≡ options) (s : State) (f l b : List ℕ) where
               ap (call (refused 22)) kept ∙ sym (accepted_is ∙ rw (lt-leb (length (record_of made.val.1)) (length b) n))
 
           module _ (h : a.written ≤ length g) where
-            pub fits : FitsAt (length g) 0 (write t s (values_of l) f)
-            fits = subst (FitsAt (length g) 0) (sym made.is) (omega (arith, size))
-
             -- the second pass makes d of it
             pub filled_call : {d : List ℕ} → d ≡ put_at g 0 (write t s (values_of l) f) → call (accepted a) d ≡ pack_continued s f l b
             filled_call {d} q =

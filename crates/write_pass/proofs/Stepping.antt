@@ -1,6 +1,5 @@
 -- One item: where it takes the pass, and what it puts.
-use Prim.Native.Nat.{ℕ, zero, suc, ◌+◌, ◌≤◌}
-use native.Mathlib.Nat.{add-zero}
+use Prim.Native.Nat.{ℕ, zero, suc, ◌+◌}
 use native.Mathlib.Omega.{arith}
 use mathlib.Core.Path.{◌≡◌, refl, sym, ap, ◌∙◌, subst}
 use mathlib.Core.Bool.{Bool, true, false, cond}
@@ -11,9 +10,8 @@ use Rattle.definition.specs.Answers.{Checked, refused, accepted}
 use Rattle.definition.specs.Bytes.{laid}
 use Rattle.definition.specs.Values.{Value}
 use Rattle.definition.specs.Lists.{values}
-use Rattle.definition.specs.States.{set, further}
-use Rattle.definition.specs.Writing.{Cell, pad, byte, pads, zeroed, Output, output, nothing, Place, place}
-use Rattle.definition.specs.declared.State.{State}
+use Rattle.definition.specs.States.{further}
+use Rattle.definition.specs.Writing.{pad, byte, pads, zeroed, Output, output, Place, place}
 use Rattle.definition.specs.declared.Setting.{Setting}
 use Rattle.definition.specs.declared.Op.{Op}
 use Rattle.values.specs.Meaning.{is_accepted}
@@ -22,7 +20,7 @@ use Rattle.plan.specs.Plans.{Wrote, ItemPlan, ItemAt}
 use Rattle.word.specs.Words.{fill_of}
 use Rattle.plan.specs.declared.item.Plan.{Plan}
 use Rattle.plan.specs.declared.item.Plan.TheVariants as Plan
-use Rattle.write_pass.specs.Walks.{listed, values_of, FitsAt, put_at, passed, taken, written, Moved}
+use Rattle.write_pass.specs.Walks.{listed, values_of, put_at, taken, written, Moved}
 use Rattle.write_pass.specs.declared.Progress.{Progress}
 
 pub list_known : (c : Checked (List Value)) → is_accepted c ≡ true → c ≡ accepted (listed c)
@@ -54,9 +52,6 @@ pub record At (l : List ℕ) (p : Progress) (op : Op) (r : Plan) : Type 0 where
 pub planned : (l : List ℕ) (p : Progress) (op : Op) (r : Plan) → is_accepted (values (drop p.at l)) ≡ true → ItemAt l p.at p.state op r → At l p op r
 planned l p op r known h = record { known = known; says = h _ (list_known (values (drop p.at l)) known) }
 
-pub as_plan : {l : List ℕ} {p : Progress} {op : Op} {r q : Plan} → At l p op r → r ≡ q → At l p op q
-as_plan {l} {p} {op} h e = subst (At l p op) e h
-
 -- the bytes that are put for a value: n zeros, and bytes, which are `size` in all
 pub record Put (l : List ℕ) (p : Progress) (op : Op) (n : ℕ) (bytes : List ℕ) (size next : ℕ) : Type 0 where
   pub wrote : Wrote l p.state (values_of (drop p.at l)) op n bytes size next
@@ -70,18 +65,6 @@ module _ {l : List ℕ} {p : Progress} {op : Op} where
 
   pub counted_put : {n size start len next : ℕ} → At l p op (Plan.Counted n size start len next) → Put l p op n (counted_bytes p.state.big l size start len) (n + (size + len)) next
   counted_put h = record { wrote = h.says.0 }
-
-  pub moved_skip : At l p op Plan.Skip → Moved l p op p
-  moved_skip h = record { out = nothing; is = h.says; known = h.known; used = sym (add-zero p.used); items = sym (add-zero p.items); few = (omega arith, omega arith) }
-
-  moved_past : (t : State) (cells : List Cell) {q : Progress} → is_accepted (values (drop p.at l)) ≡ true → written l p op ≡ accepted (place t (values_of (drop p.at l)), output cells [] 1) → q ≡ passed p t → Moved l p op q
-  moved_past t cells known h e = subst (Moved l p op) (sym e) (record { out = output cells [] 1; is = h; known = known; used = sym (add-zero p.used); items = refl; few = (omega arith, omega arith) })
-
-  pub moved_set : {x : Setting} {q : Progress} → At l p op (Plan.Set x) → q ≡ passed p (set x p.state) → Moved l p op q
-  moved_set {x} h e = moved_past (set x p.state) [] h.known h.says e
-
-  pub moved_zeros : {n : ℕ} {q : Progress} → At l p op (Plan.Zeros n) → q ≡ passed p (further p.state n) → Moved l p op q
-  moved_zeros {n} h e = moved_past (further p.state n) (pads n) h.known h.says.is e
 
   -- ---- what it puts
 
@@ -97,18 +80,12 @@ module _ {l : List ℕ} {p : Progress} {op : Op} where
     put_size : length (pads n ++ map byte bytes) ≡ size
     put_size = padded_length n bytes ∙ v.wrote.long
 
-    pub value_room : (put : Bool) (m w : ℕ) → (put ≡ true → FitsAt m w (written l p op)) → put ≡ true → w + size ≤ m
-    value_room put m w f e = subst (λ (x : ℕ). w + x ≤ m) put_size (subst (FitsAt m w) put_out (f e))
-
     pub value_bytes_put : (put : Bool) (d : List ℕ) (w : ℕ) {g : List ℕ} → g ≡ cond put (paste d w (replicate n 0 ++ bytes) size) d → g ≡ cond put (put_at d w (written l p op)) d
     value_bytes_put put d w e =
         let is = ap (put_at d w) put_out ∙ ap (λ (x : List ℕ). paste d w x (length (pads n ++ map byte bytes))) (padded_bytes n bytes) ∙ ap (paste d w (replicate n 0 ++ bytes)) put_size in
         e ∙ ap (λ (x : List ℕ). cond put x d) (sym is)
 
   module _ {n : ℕ} (h : At l p op (Plan.Zeros n)) where
-    pub zeros_room : (put : Bool) (m w : ℕ) → (put ≡ true → FitsAt m w (written l p op)) → put ≡ true → w + n ≤ m
-    zeros_room put m w f e = subst (λ (x : ℕ). w + x ≤ m) (length-replicate n pad) (subst (FitsAt m w) h.says.is (f e))
-
     pub zeros_put : (put : Bool) (d : List ℕ) (w : ℕ) {g : List ℕ} → g ≡ cond put (paste d w (replicate n 0) n) d → g ≡ cond put (put_at d w (written l p op)) d
     zeros_put put d w e =
         let is = ap (put_at d w) h.says.is ∙ ap (λ (x : List ℕ). paste d w x (length (pads n))) (zeros_bytes n) ∙ ap (paste d w (replicate n 0)) (length-replicate n pad) in
@@ -119,8 +96,12 @@ nothing_put : (put : Bool) (d : List ℕ) (w : ℕ) (c : Checked (Place Value ×
 nothing_put true d w c e = sym e
 nothing_put false d w c e = refl
 
-pub refused_put : (put : Bool) (d : List ℕ) (w : ℕ) {c : Checked (Place Value × Output)} {k : ℕ} → c ≡ refused k → d ≡ cond put (put_at d w c) d
-refused_put put d w {c} e = nothing_put put d w c (ap (put_at d w) e)
-
-pub none_put : (put : Bool) (d : List ℕ) (w : ℕ) {c : Checked (Place Value × Output)} {q : Place Value} {n : ℕ} → c ≡ accepted (q, output [] [] n) → d ≡ cond put (put_at d w c) d
+none_put : (put : Bool) (d : List ℕ) (w : ℕ) {c : Checked (Place Value × Output)} {q : Place Value} {n : ℕ} → c ≡ accepted (q, output [] [] n) → d ≡ cond put (put_at d w c) d
 none_put put d w {c} e = nothing_put put d w c (ap (put_at d w) e ∙ sym (paste-zero d w []))
+
+module _ {l : List ℕ} {p : Progress} {op : Op} where
+  pub skip_put : At l p op Plan.Skip → (put : Bool) (d : List ℕ) (w : ℕ) → d ≡ cond put (put_at d w (written l p op)) d
+  skip_put h put d w = none_put put d w h.says
+
+  pub set_put : {x : Setting} → At l p op (Plan.Set x) → (put : Bool) (d : List ℕ) (w : ℕ) → d ≡ cond put (put_at d w (written l p op)) d
+  set_put h put d w = none_put put d w h.says

@@ -13,7 +13,6 @@ use Rattle.definition.specs.declared.Op.{Op}
 use Rattle.values.specs.Meaning.{is_accepted}
 use Rattle.write_pass.specs.declared.Progress.{Progress}
 use Rattle.write_pass.specs.declared.Total.{Total}
-use Rattle.write_pass.specs.declared.Total.TheVariants as Total
 use Rattle.write_pass.specs.declared.Step.{Step}
 use Rattle.write_pass.specs.declared.Step.TheVariants.{Refused, Skip, To}
 

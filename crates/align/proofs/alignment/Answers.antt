@@ -1,5 +1,4 @@
 -- By whether the lesser number is a power of two.
-use Rattle.std.proofs.Common.{rules}
 use Rattle.definition.specs.States.{alignment}
 use Rattle.align.proofs.alignment.Goals as goal
 

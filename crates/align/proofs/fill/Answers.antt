@@ -1,5 +1,5 @@
 -- The remainder, which is below the alignment, decides.
-use Rattle.std.proofs.Common.{mod-lt, arith, rules, ne_eqb}
+use Rattle.std.proofs.Common.{mod-lt, arith, ne_eqb}
 use Rattle.align.proofs.fill.Goals as goal
 
 pub overflow_sub-result : goal.overflow_sub-result

@@ -1,5 +1,5 @@
 -- `fits` meets its contract: it compares a difference in place of a sum.
-use Rattle.std.proofs.Common.{◌≡◌, ℕ, ◌+◌, ◌-◌, ◌≤◌, leb, sym, ◌∙◌, arith, rules, le-leb, leb-false, leb-true}
+use Rattle.std.proofs.Common.{◌≡◌, ℕ, ◌+◌, ◌-◌, ◌≤◌, leb, sym, ◌∙◌, arith, le-leb, leb-false, leb-true}
 use borrow.Table.Steps.{cases}
 use borrow.Author.Tests.{lt-leb}
 use Rattle.align.proofs.fits.Goals as goal

@@ -1,5 +1,5 @@
 -- Where the mask is below 16, the number is one of 1 to 16; else it is 0 or above 16.
-use Rattle.std.proofs.Common.{sym, arith, rules}
+use Rattle.std.proofs.Common.{sym, arith}
 use Rattle.align.proofs.Powers.{power_mask, power_none}
 use Rattle.align.proofs.is_power.Goals as goal
 

@@ -1,5 +1,5 @@
 -- The limit is tested first, then the length.
-use Rattle.std.proofs.Common.{sym, ◌∙◌, rules}
+use Rattle.std.proofs.Common.{sym, ◌∙◌}
 use Rattle.align.proofs.is_sound.Goals as goal
 
 pub returns-then-is_power : goal.returns-then-is_power

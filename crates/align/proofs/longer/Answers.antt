@@ -1,5 +1,5 @@
 -- Two tests that do not overflow tell whether the sum is at most 2^63-1.
-use Rattle.std.proofs.Common.{◌+◌, ◌-◌, ◌^◌, ap, arith, rules, le-leb}
+use Rattle.std.proofs.Common.{◌+◌, ◌-◌, ◌^◌, ap, arith, le-leb}
 use borrow.Author.Tests.{lt-leb}
 use Rattle.definition.specs.Answers.{accepted}
 use Rattle.definition.specs.States.{longer}

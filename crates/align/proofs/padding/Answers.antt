@@ -1,5 +1,4 @@
 -- The lesser of a natural alignment and the limit is one of 1 to 16, and its bits tell whether it is a power of two.
-use Rattle.std.proofs.Common.{rules}
 use Rattle.align.proofs.Powers.{unaligned, aligned, no_power}
 use Rattle.align.proofs.padding.Goals as goal
 

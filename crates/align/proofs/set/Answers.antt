@@ -1,5 +1,5 @@
 -- Each setting changes its own part of the state.
-use Rattle.std.proofs.Common.{◌∙◌, rules}
+use Rattle.std.proofs.Common.{◌∙◌}
 use Rattle.align.proofs.set.Goals as goal
 
 pub returns-in-Order : goal.returns-in-Order

@@ -1,6 +1,4 @@
 -- `date_after` meets its contract: dividing finds the year that the count lies in.
-use native.Mathlib.Omega.{arith}
-use borrow.Author.Rules.{rules}
 use Rattle.dates.proofs.Dividing.{CountOf, count_of, YearFound, year_found, date_found}
 use Rattle.dates.proofs.date_after.Goals as goal
 use Rattle.dates.proofs.date_after.Goals.{After-count-j}
@@ -10,14 +8,6 @@ counted c = rw c.count-j.ensures (count_of _ c.before.requires)
 
 year : (c : After-count-j) → YearFound c.count-j.result
 year c = year_found _ (counted c).fit
-
-pub overflow_mul-y : goal.overflow_mul-y
-overflow_mul-y c =
-    omega (arith, (counted (goal.at.overflow_mul-y c).After-count-j).fit)
-
-pub days_before_year-requires : goal.days_before_year-requires
-days_before_year-requires c =
-    (year (goal.at.days_before_year-requires c).After-count-j).to
 
 pub overflow_sub-j : goal.overflow_sub-j
 overflow_sub-j c =

@@ -1,7 +1,6 @@
 -- `date_of` meets its contract: the tests are the definition's.
 use mathlib.Core.Path.{◌≡◌, sym, ap, ◌∙◌}
 use lib.IntN.{pos}
-use borrow.Author.Rules.{rules}
 use Rattle.definition.specs.Answers.{accepted}
 use Rattle.calendar.specs.Calendar.{date_of}
 use Rattle.calendar.proofs.Calls.{date_of_lem, date_of_late}

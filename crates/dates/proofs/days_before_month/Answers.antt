@@ -2,7 +2,6 @@
 use Prim.Native.Nat.{◌%◌}
 use mathlib.Core.Bool.{true, false}
 use native.Mathlib.Omega.{arith}
-use borrow.Author.Rules.{rules}
 use borrow.Author.Tests.{eq-eqb, ne_eqb}
 use Rattle.dates.proofs.Closed.{to_february, from_march}
 use Rattle.dates.proofs.days_before_month.Goals as goal

@@ -1,7 +1,6 @@
 -- `days_before_year` meets its contract: it is the closed form.
 use mathlib.Core.Path.{sym}
 use native.Mathlib.Omega.{arith}
-use borrow.Author.Rules.{rules}
 use Rattle.dates.proofs.Closed.{years_are}
 use Rattle.dates.proofs.days_before_year.Goals as goal
 

@@ -1,7 +1,6 @@
 -- `end_before` meets its contract: it goes from the first of the month, which is a date.
 use Prim.Native.Nat.{◌<◌}
 use native.Mathlib.Omega.{arith}
-use borrow.Author.Rules.{rules}
 use Rattle.dates.proofs.Counting.{small_days}
 use Rattle.dates.proofs.Passing.{first_date, to_28th, day_before, month_end_lem}
 use Rattle.dates.proofs.end_before.Goals as goal

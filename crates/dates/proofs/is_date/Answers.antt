@@ -2,7 +2,6 @@
 use mathlib.Core.Path.{sym, ◌∙◌, ap}
 use native.Mathlib.Omega.{arith}
 use lib.Dec.{leb}
-use borrow.Author.Rules.{rules}
 use Rattle.calendar.proofs.Existence.{by_length, no_day, no_month, to_28}
 use Rattle.dates.proofs.is_date.Goals as goal
 

@@ -4,17 +4,17 @@ use mathlib.Core.Path.{◌≡◌, sym, ap, ◌∙◌}
 use native.Mathlib.Omega.{arith}
 use lib.IntN.{pos}
 use mir.Facts.{to_z-of_z}
-use borrow.Author.Rules.{rules}
-use Rattle.definition.specs.Answers.{accepted, ◌>>=◌}
+use Rattle.definition.specs.Answers.{◌>>=◌}
 use Rattle.calendar.specs.Calendar.{months_on, end_before, in_two_bytes, date_of, last_day}
 use Rattle.calendar.proofs.Dates.{Valid}
 use Rattle.calendar.proofs.Existence.{months_26}
+use Rattle.calendar.specs.declared.Date.{Date}
+use Rattle.dates.specs.declared.Dated.TheVariants as Dated
 use Rattle.dates.specs.Answers.{dated_of}
-use Rattle.dates.specs.Fourth.{Later}
 use Rattle.dates.proofs.Signs.{from_bound, months_below, by_first}
 use Rattle.dates.proofs.Passing.{first_valid, later}
 use Rattle.dates.proofs.last_day.Goals as goal
-use Rattle.dates.proofs.last_day.Goals.{After-date_of, After-extent-k, After-months_on, In-Date-2}
+use Rattle.dates.proofs.last_day.Goals.{After-date_of, After-extent-k}
 
 months : (c : After-extent-k) → (c.before.before.args.months ≡ pos c.extent-k.result) × (1 ≤ c.extent-k.result)
 months c = from_bound _ 1 _ c.before.before.ranges.months c.before.if-months-lt1.false c.extent-k.ensures
@@ -28,20 +28,10 @@ decided c =
     rw (m.0, q) (by_first _ _ m.1 c.before.if-k-gt12.false)
 
 -- the first day's date
-dated : (c : In-Date-2) → date_of c.before.before.before.before.before.before.args.first ≡ accepted c.d-1.given.0.0
-dated c =
-    let s = c.before.before.before.before.before.before in
-    sym (ap date_of (to_z-of_z s.ranges.first)) ∙ sym c.before.before.date_of.ensures ∙ ap dated_of c.d-1.given.1
-
-first : (c : In-Date-2) → Valid c.d-1.given.0.0 × (c.d-1.given.0.0.year ≤ 2179)
-first c = first_valid _ _ (dated c)
-
-ends : (c : After-months_on) → Later c.months_on.result
-ends c =
-    let d = c.before.before in
-    let e = d.before.before.before in
-    let v = first d in
-    rw c.months_on.ensures (later _ _ v.0 v.1 (months e.before).1 e.if-k-gt12.false)
+first : (c : After-date_of) (d : Date) → c.date_of.result ≡ Dated.Date d → Valid d × (d.year ≤ 2179)
+first c d e =
+    let s = c.before.before.before.before in
+    first_valid _ _ (sym (ap date_of (to_z-of_z s.ranges.first)) ∙ sym c.date_of.ensures ∙ ap dated_of e)
 
 pub returns-then-months-lt1 : goal.returns-then-months-lt1
 returns-then-months-lt1 c =
@@ -53,11 +43,13 @@ returns-then-k-gt12 c =
 
 pub months_on-requires : goal.months_on-requires
 months_on-requires c =
-    let v = first (goal.at.months_on-requires c).In-Date-2 in (v.0.from, v.0.to, v.1, c.if-k-gt12.false)
+    let v = first (goal.at.months_on-requires c).After-date_of _ c.in-Date.is in (v.0.from, v.0.to, v.1, c.if-k-gt12.false)
 
 pub end_before-requires : goal.end_before-requires
 end_before-requires c =
-    ends (goal.at.end_before-requires c).After-months_on
+    let v = first (goal.at.end_before-requires c).After-date_of _ c.in-Date.is in
+    let m = months (goal.at.end_before-requires c).After-extent-k in
+    rw c.months_on.ensures (later _ _ v.0 v.1 m.1 c.if-k-gt12.false)
 
 pub returns-in-Refused : goal.returns-in-Refused
 returns-in-Refused c =

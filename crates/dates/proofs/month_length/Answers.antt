@@ -1,7 +1,6 @@
 -- `month_length` meets its contract: but for February the closed form.
 use mathlib.Core.Path.{sym}
 use native.Mathlib.Omega.{arith}
-use borrow.Author.Rules.{rules}
 use Rattle.calendar.specs.Calendar.{month_length}
 use Rattle.dates.proofs.Closed.{lengths_are}
 use Rattle.dates.proofs.month_length.Goals as goal

@@ -1,6 +1,5 @@
 -- `months_on` meets its contract: up to twelve months end in the year or in the next.
 use mathlib.Core.Path.{sym}
-use borrow.Author.Rules.{rules}
 use Rattle.dates.proofs.Passing.{in_the_year, in_the_next}
 use Rattle.dates.proofs.months_on.Goals as goal
 

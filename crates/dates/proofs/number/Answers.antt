@@ -2,7 +2,6 @@
 use Prim.Native.Nat.{◌<◌, ◌-◌, ◌+◌}
 use mathlib.Core.Path.{◌≡◌, sym}
 use native.Mathlib.Omega.{arith}
-use borrow.Author.Rules.{rules}
 use borrow.Author.Tests.{lt-ltb, le-ltb}
 use Rattle.calendar.specs.Calendar.{date, is_leap, days_before}
 use Rattle.calendar.proofs.Dates.{Valid, valid}

@@ -1,33 +1,24 @@
 -- `number_of` meets its contract: the tests are the definition's, but that no year after 2179 has a day that fits.
 use mathlib.Core.Path.{◌≡◌, sym, ap, ◌∙◌}
 use mathlib.Core.Bool.{true}
-use native.Mathlib.Omega.{arith}
-use borrow.Author.Rules.{rules}
-use borrow.Author.Tests.{not-true, not-false}
 use Rattle.calendar.specs.Calendar.{date, is_date, in_two_bytes}
 use Rattle.calendar.proofs.Calls.{number_is}
 use Rattle.calendar.proofs.Existence.{no_date}
 use Rattle.calendar.proofs.Conversions.{counted}
 use Rattle.dates.proofs.number_of.Goals as goal
-use Rattle.dates.proofs.number_of.Goals.{After-in_two_bytes, Else-not-is_date}
+use Rattle.dates.proofs.number_of.Goals.{Else-not-is_date}
 
 there : (c : Else-not-is_date) → is_date (date c.before.before.args.year c.before.before.args.month c.before.before.args.day) ≡ true
-there c = sym c.before.is_date.ensures ∙ not-false _ c.if-not-is_date.false
+there c = sym c.before.is_date.ensures ∙ c.if-not-is_date.false
 
 pub returns-then-not-is_date : goal.returns-then-not-is_date
 returns-then-not-is_date c =
-    sym (no_date _ (sym c.is_date.ensures ∙ not-true _ c.if-not-is_date.true))
+    sym (no_date _ (sym c.is_date.ensures ∙ c.if-not-is_date.true))
 
 pub returns-then-year-gt2179 : goal.returns-then-year-gt2179
 returns-then-year-gt2179 c =
     sym (counted.too_late _ (there (goal.at.returns-then-year-gt2179 c).Else-not-is_date) c.if-year-gt2179.true)
 
-pub number-requires : goal.number-requires
-number-requires c =
-    (there (goal.at.number-requires c).Else-not-is_date, c.requires, omega (arith, c.if-year-gt2179.false))
-
 pub returns : goal.returns
 returns c =
-    λ c.
-    let e = c.before.before.before in
-    c.in-two-bytes.ensures ∙ ap in_two_bytes c.before.number.ensures ∙ sym (number_is _ (there e) e.before.before.requires) (goal.at.returns c).After-in_two_bytes
+    c.in_two_bytes.ensures ∙ ap in_two_bytes c.number.ensures ∙ sym (number_is _ (there (goal.at.returns c).Else-not-is_date) c.requires)

@@ -1,5 +1,5 @@
 -- The product by halves differs from n * (2^40 + 435) by a multiple of 2^64.
-use Rattle.std.proofs.Common.{◌≡◌, ℕ, ◌+◌, ◌*◌, ◌%◌, ◌^◌, sym, ap, ◌∙◌, arith, rules}
+use Rattle.std.proofs.Common.{◌≡◌, ℕ, ◌+◌, ◌*◌, ◌%◌, ◌^◌, sym, ap, ◌∙◌, arith}
 use native.Mathlib.Nat.{mod-add-div, add-mul-mod_self_left}
 use Rattle.days.proofs.times_prime.Goals as goal
 
@@ -9,4 +9,4 @@ by_halves n low q r k of-n of-high = sym (add-mul-mod_self_left _ (2 ^ 64) (q * 
 
 pub returns : goal.returns
 returns c =
-    c.wrapping_add_u64.ensures ∙ by_halves _ _ _ _ _ (mod-add-div c.args.n 4294967296) (mod-add-div _ 4294967296)
+    c.wrapping_add_u64.ensures.value ∙ by_halves _ _ _ _ _ (mod-add-div c.args.n 4294967296) (mod-add-div _ 4294967296)

@@ -1,11 +1,9 @@
 -- The invariant: the first line is what is passed, and the first line of the rest. The measure is what is left of the input.
 use Prim.Native.Nat.{◌-◌, ◌≤◌}
 use mathlib.Core.List.{◌++◌}
-use mathlib.Core.Path.{◌≡◌, refl}
-use native.Mathlib.Omega.{arith}
+use mathlib.Core.Path.{◌≡◌}
 use lib.ListN.{length, take, drop}
 use Rattle.definition.specs.Program.{first_line}
-use Rattle.line.proofs.Inputs.{line_stop, line_end, line_on}
 use Rattle.line.proofs.first_line.Given as goal
 
 abbrev pub invariant-loop-i : goal.invariant-loop-i

@@ -1,12 +1,11 @@
 -- The first line's length tells both: whether the line is too long, and whether it is complete.
-use borrow.Author.Rules.{rules}
 use Rattle.line.proofs.Inputs.{settled_long, settled_short}
 use Rattle.line.proofs.is_settled.Goals as goal
 
-pub returns-then-n-gt-MAX_FORMAT : goal.returns-then-n-gt-MAX_FORMAT
-returns-then-n-gt-MAX_FORMAT c =
-    let f = c.first_line-n.ensures in settled_long _ _ f.1 f.0 c.if-n-gt-MAX_FORMAT.true
+pub returns-then-n-gt-MAX_FORMAT-clause-stands : goal.returns-then-n-gt-MAX_FORMAT-clause-stands
+returns-then-n-gt-MAX_FORMAT-clause-stands c =
+    let f = c.first_line-n.ensures in settled_long _ _ f.line f.inside c.if-n-gt-MAX_FORMAT.true
 
-pub returns-else-n-gt-MAX_FORMAT : goal.returns-else-n-gt-MAX_FORMAT
-returns-else-n-gt-MAX_FORMAT c =
-    let f = c.first_line-n.ensures in settled_short _ _ f.1 f.0 c.if-n-gt-MAX_FORMAT.false
+pub returns-else-n-gt-MAX_FORMAT-clause-stands : goal.returns-else-n-gt-MAX_FORMAT-clause-stands
+returns-else-n-gt-MAX_FORMAT-clause-stands c =
+    let f = c.first_line-n.ensures in settled_short _ _ f.line f.inside c.if-n-gt-MAX_FORMAT.false

@@ -35,7 +35,13 @@ returns-then-e-lt-PLAIN_END c =
 
 pub returns-then-e-lt-UNSIGNED_END : goal.returns-then-e-lt-UNSIGNED_END
 returns-then-e-lt-UNSIGNED_END c =
-    let t = table_at c.args.table.now in let s = c.args.rest.now in record { same = numeral c.entry-e.result (drop 1 s) t (rw c.entry-e.ensures (c.requires (get_or s 0 0))) c.if-e-lt-PLAIN_END.false c.if-e-lt-UNSIGNED_END.true ∙ behind (goal.at.returns-then-e-lt-UNSIGNED_END c).After-entry-e; numeral = (c.if-e-lt-PLAIN_END.false, inside s c.if-rest-eq0.false) }
+    let s = c.args.rest.now in
+    record {
+      same =
+          numeral c.entry-e.result (drop 1 s) (table_at c.args.table.now) (rw c.entry-e.ensures (c.requires (get_or s 0 0))) c.if-e-lt-PLAIN_END.false c.if-e-lt-UNSIGNED_END.true
+          ∙ behind (goal.at.returns-then-e-lt-UNSIGNED_END c).After-entry-e;
+      numeral = (c.if-e-lt-PLAIN_END.false, inside s c.if-rest-eq0.false);
+    }
 
 pub returns-then-e-lt-ALIGN_END : goal.returns-then-e-lt-ALIGN_END
 returns-then-e-lt-ALIGN_END c =

@@ -1,4 +1,4 @@
--- `single::from_single` meets its contract: the sign goes apart (`double-sign`), and the sum is below 2 ^ 64 as what it is equal to. Assumes nothing.
+-- `single::from_single` meets its contract: the sign goes apart (`double_sign`), and the sum is below 2 ^ 64 as what it is equal to. Assumes nothing.
 use mathlib.Core.Path.{◌≡◌, sym, ap, ◌∙◌}
 use Prim.Native.Nat.{ℕ, ◌+◌, ◌*◌, ◌/◌, ◌^◌}
 use borrow.Author.Rules.{rules}

@@ -1,4 +1,4 @@
--- `single::to_single` meets its contract: the sign goes apart (`single-sign`), and the sum is below 2 ^ 32 as what it is equal to. Assumes nothing.
+-- `single::to_single` meets its contract: the sign goes apart (`single_sign`), and the sum is below 2 ^ 32 as what it is equal to. Assumes nothing.
 use mathlib.Core.Path.{◌≡◌, sym, ap, ◌∙◌}
 use Prim.Native.Nat.{ℕ, ◌+◌, ◌*◌, ◌/◌, ◌^◌}
 use native.Mathlib.Nat.{lt_of_lt_of_le}

@@ -1,9 +1,7 @@
 -- The invariant: the records so far stand at the buffer's front, and the others fit. The measure is what is left of the run.
-use Prim.Native.Nat.{◌-◌, ◌^◌, ◌<◌}
-use native.Mathlib.Omega.{arith}
+use Prim.Native.Nat.{◌-◌}
 use lib.ListN.{length}
-use Rattle.runs.specs.Entries.{Stands}
-use Rattle.tray.proofs.Walking.{Putting, putting_none, putting_length, putting_inside, putting_end, not_damaged, putting_room, putting_fits, putting_on}
+use Rattle.tray.proofs.Walking.{Putting}
 use Rattle.tray.proofs.put_tray.Given as goal
 
 abbrev pub invariant-loop-from : goal.invariant-loop-from

@@ -3,7 +3,6 @@ use mathlib.Core.Path.{sym, ap, ◌∙◌}
 use mir.Facts.{to_z-of_z}
 use Rattle.definition.specs.Bytes.{extent}
 use Rattle.word.proofs.Words.{signed_wide, signed_narrow}
-use borrow.Author.Rules.{rules}
 use Rattle.word.proofs.in_signed.Goals as goal
 
 pub returns-then-size-ge8 : goal.returns-then-size-ge8

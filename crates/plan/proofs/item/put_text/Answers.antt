@@ -1,21 +1,15 @@
 -- By whether there is room.
 use mathlib.Core.Path.{sym, ◌∙◌}
-use borrow.Author.Tests.{not-true, not-false}
-use Rattle.plan.proofs.Plans.{sound_length, text_put, text_long}
+use Rattle.plan.proofs.Plans.{text_put, text_long}
 use Rattle.plan.proofs.Texts.{text_length}
-use borrow.Author.Rules.{rules}
 use Rattle.plan.proofs.item.put_text.Goals as goal
-
-pub fits-requires : goal.fits-requires
-fits-requires c =
-    sound_length c.args.s c.requires.sound
 
 pub returns-then-not-fits : goal.returns-then-not-fits
 returns-then-not-fits c =
     let a = c.args in
-    text_long a.s a.p a.start a.n a.next _ _ (λ l within. text_length l a.start a.n within a.zeros) (sym c.fits2.ensures ∙ not-true c.fits2.result c.if-not-fits.true)
+    text_long a.s a.p a.start a.n a.next _ _ (λ l within. text_length l a.start a.n within a.zeros) (sym c.fits.ensures ∙ c.if-not-fits.true)
 
 pub returns : goal.returns
 returns c =
     let a = c.args in
-    text_put a.s a.p a.start a.n a.next _ _ (λ l within. text_length l a.start a.n within a.zeros) (sym c.fits2.ensures ∙ not-false c.fits2.result c.if-not-fits.false)
+    text_put a.s a.p a.start a.n a.next _ _ (λ l within. text_length l a.start a.n within a.zeros) (sym c.fits.ensures ∙ c.if-not-fits.false)

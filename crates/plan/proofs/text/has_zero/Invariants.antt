@@ -1,13 +1,9 @@
 -- What was found among the bytes passed, or stands among those left, is whether there is a zero.
 use Prim.Native.Nat.{◌+◌, ◌-◌, ◌≤◌}
-use native.Mathlib.Nat.{add-zero, sub-zero}
-use mathlib.Core.Path.{◌≡◌, sym, ◌∙◌}
-use mathlib.Core.Bool.{◌||◌, or-false}
-use native.Mathlib.Omega.{arith}
-use mathlib.Core.Logic.{⊎_elim}
+use mathlib.Core.Path.{◌≡◌}
+use mathlib.Core.Bool.{◌||◌}
 use lib.ListN.{length, take, drop}
 use Rattle.definition.specs.Fields.{has_zero}
-use Rattle.plan.proofs.Texts.{next_zero, next_other}
 use Rattle.plan.proofs.text.has_zero.Given as goal
 
 abbrev pub invariant-loop-i : goal.invariant-loop-i
