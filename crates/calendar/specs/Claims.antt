@@ -2,7 +2,7 @@
 use Rattle.std.specs.Prelude.{ℕ, ◌+◌, ◌≤◌, ◌<◌, ◌≡◌, true, false, ℤ, pos}
 use Rattle.definition.specs.Answers.{Checked, refused, accepted, ◌>>=◌}
 use Rattle.laws.specs.Claims.{Listed}
-use Rattle.calendar.specs.Calendar.{date, is_leap, year_length, days_before_month, days_before, is_date, next, months_on, month_end, day_number, date_of, last_day}
+use Rattle.calendar.specs.Calendar.{is_leap, year_length, days_before_month, days_before, is_date, next, months_on, month_end, day_number, date_of, last_day}
 use Rattle.calendar.specs.declared.Date.{Date}
 
 -- the day number of a date

@@ -1,4 +1,6 @@
 // A date of the Gregorian calendar. The definitions of document 02, Two, are in specs/, with what is claimed of them.
+#![tactic(auto)]
+
 ghost use Rattle.calendar.specs.Claims.{Undone, Counted, Ends, Checks};
 ghost use Rattle.calendar.specs.Examples.{Examples};
 ghost use Rattle.calendar.specs.Premises.{Needed};

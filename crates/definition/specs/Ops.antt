@@ -4,7 +4,6 @@ use Rattle.definition.specs.Answers.{Checked, refused, accepted, ◌>>=◌, ◌>
 use Rattle.definition.specs.Options.{Table, Class, NoOption, Blank, Order, Limit, Number, Chars, ZeroEnded, Counted, Fill, Align, NumeralRule, Nothing, Digits, DigitsBehindX, NextByte, Entry}
 use Rattle.definition.specs.Items.{Item, items, numeral_of, Numeral, Missing, TooLarge, Value}
 use Rattle.definition.specs.declared.Op.{Op}
-use Rattle.definition.specs.declared.Op.TheVariants as Op
 use Rattle.definition.specs.declared.Field.TheVariants as Field
 use Rattle.definition.specs.declared.Setting.TheVariants as Setting
 

@@ -1,4 +1,5 @@
 // The types that the definitions and the code share, and the tags of the value list. The definitions of document 01 are in specs/.
+#![tactic(auto)]
 
 // Which values a number option takes, and what it makes of them.
 #[derive(Clone, Copy)]

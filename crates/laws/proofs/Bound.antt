@@ -25,13 +25,11 @@ use Rattle.definition.specs.Calls.{at_most_63, list_bound, unpack, unpacked_of, 
 use Rattle.laws.specs.Claims.{Bounded}
 use Rattle.definition.specs.declared.State.{State}
 use Rattle.definition.specs.declared.Setting.{Setting}
-use Rattle.definition.specs.declared.Setting.TheVariants as Setting
 use Rattle.definition.specs.declared.Kind.{Kind}
 use Rattle.definition.specs.declared.Kind.TheVariants.{SmallSigned, SmallUnsigned, Signed, Unsigned, LuaInteger, LuaUnsigned, Size, Single, Double}
 use Rattle.definition.specs.declared.Field.{Field}
 use Rattle.definition.specs.declared.Field.TheVariants.{Number, Chars, ZeroEnded, Counted}
 use Rattle.definition.specs.declared.Op.{Op}
-use Rattle.definition.specs.declared.Op.TheVariants as Op
 use Rattle.definition.specs.declared.Position.{Position}
 use Rattle.definition.specs.declared.Unpacked.{Unpacked}
 use Rattle.laws.proofs.Answers.{never, same, bound, passed, by_steps, silent_on}

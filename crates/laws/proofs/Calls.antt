@@ -14,7 +14,7 @@ use Rattle.definition.specs.Answers.{Checked, refused, accepted, ◌>>=◌}
 use Rattle.definition.specs.Options.{options}
 use Rattle.definition.specs.Ops.{ops, is_power}
 use Rattle.definition.specs.Values.{Value}
-use Rattle.definition.specs.Lists.{front, values, fields_after}
+use Rattle.definition.specs.Lists.{values, fields_after}
 use Rattle.definition.specs.States.{start, set}
 use Rattle.definition.specs.Writing.{zeroed, Output, nothing, ◌⊕◌, Place, place, write_op, writing, write}
 use Rattle.definition.specs.Calls.{Call, call, into, at_most_63, pack, record_of, continued_of, pack_continued, string_pack, unpack, unpacked_of, list_read, string_unpack}
@@ -22,7 +22,6 @@ use Rattle.definition.specs.Trays.{records_of, pack_tray}
 use Rattle.laws.specs.Claims.{All, LongEnough, gives, Total, total_of, Room, Rooms, Returned}
 use Rattle.definition.specs.declared.State.{State}
 use Rattle.definition.specs.declared.Setting.{Setting}
-use Rattle.definition.specs.declared.Setting.TheVariants as Setting
 use Rattle.definition.specs.declared.Op.{Op}
 use Rattle.definition.specs.declared.Continued.{Continued}
 use Rattle.laws.proofs.Answers.{never, same, same_number, bound, passed, by_steps, both_parts}

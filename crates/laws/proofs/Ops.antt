@@ -11,15 +11,12 @@ use Rattle.definition.specs.Options.{entry_list, find, Table, options, Class, Nu
 use Rattle.definition.specs.Items.{Item, items, numeral_of, Numeral, Missing}
 use Rattle.definition.specs.Ops.{op_of, ops, op_by, op_with, natural_of, size_or, limit_or, needed, value_or, number_natural, natural_by, within16, is_power}
 use Rattle.definition.specs.States.{set}
-use Rattle.definition.specs.Options as Class
 use Rattle.definition.specs.declared.State.{State}
 use Rattle.definition.specs.declared.Kind.{Kind}
 use Rattle.definition.specs.declared.Kind.TheVariants.{SmallSigned, SmallUnsigned, Signed, Unsigned, LuaInteger, LuaUnsigned, Size, Single, Double}
 use Rattle.definition.specs.declared.Field.TheVariants.{Number, Chars, Counted}
 use Rattle.definition.specs.declared.Setting.{Setting}
-use Rattle.definition.specs.declared.Setting.TheVariants as Setting
 use Rattle.definition.specs.declared.Op.{Op}
-use Rattle.definition.specs.declared.Op.TheVariants as Op
 use Rattle.laws.specs.Claims.{All}
 use Rattle.laws.proofs.Answers.{never, same, bound, passed}
 use Rattle.laws.proofs.Numbers.{valid_size}

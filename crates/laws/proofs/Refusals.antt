@@ -25,15 +25,12 @@ use Rattle.definition.specs.Calls.{at_most_63, pack, unpack}
 use Rattle.definition.specs.Trays.{first_list, lists_past, lists, Placed, before, records, records_from, records_of}
 use Rattle.laws.specs.Claims.{All}
 use Rattle.laws.proofs.Answers.{never, same_number}
-use Rattle.definition.specs.Options as Class
 use Rattle.definition.specs.declared.Kind.{Kind}
 use Rattle.definition.specs.declared.Kind.TheVariants.{SmallSigned, SmallUnsigned, Signed, Unsigned, LuaInteger, LuaUnsigned, Size, Single, Double}
-use Rattle.definition.specs.Items as Numeral
 use Rattle.definition.specs.declared.State.{State}
 use Rattle.definition.specs.declared.Field.{Field}
 use Rattle.definition.specs.declared.Field.TheVariants.{Number, Chars, ZeroEnded, Counted}
 use Rattle.definition.specs.declared.Op.{Op}
-use Rattle.definition.specs.declared.Op.TheVariants as Op
 
 -- a refusal's number passes a test
 pub data Refuses (test : ℕ → Bool) {A : Type 0} : Checked A → Type 0 where

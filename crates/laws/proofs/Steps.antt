@@ -22,9 +22,7 @@ use Rattle.laws.specs.Claims.{Holds, All, is_short, of_field, integer_for_j}
 use Rattle.definition.specs.declared.State.{State}
 use Rattle.definition.specs.declared.Field.{Field}
 use Rattle.definition.specs.declared.Setting.{Setting}
-use Rattle.definition.specs.declared.Setting.TheVariants as Setting
 use Rattle.definition.specs.declared.Op.{Op}
-use Rattle.definition.specs.declared.Op.TheVariants as Op
 use Rattle.laws.proofs.Answers.{never, same, bound, passed}
 use Rattle.laws.proofs.Bytes.{first_of}
 use Rattle.laws.proofs.Cells.{split, holds_length, holds_bytes, holds_none}

@@ -1,5 +1,7 @@
 // What is claimed of the definitions, as contracts: the claims, and why they have their premises. The laws that prove them,
 // which the code's proofs cite too, are in proofs/.
+#![tactic(auto)]
+
 ghost use Rattle.laws.specs.Claims.{Demand, Continuing, Returned, Rooms, Numbered, Bounded, Decimals, Fills};
 ghost use Rattle.laws.specs.Premises.{Needed, Divided, Prefixed};
 ghost use Rattle.laws.specs.Trays.{Trays, TraysNeeded, TraysLong};

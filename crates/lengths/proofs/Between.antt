@@ -18,7 +18,6 @@ use Rattle.definition.specs.declared.State.{State}
 use Rattle.definition.specs.declared.Field.{Field}
 use Rattle.definition.specs.declared.Field.TheVariants.{ZeroEnded, Counted}
 use Rattle.definition.specs.declared.Op.{Op}
-use Rattle.definition.specs.declared.Op.TheVariants as Op
 use Rattle.laws.proofs.Answers.{never, same, passed, by_steps}
 use Rattle.laws.proofs.Bytes.{length_coded}
 use Rattle.laws.proofs.Size.{number_size, chars_size}

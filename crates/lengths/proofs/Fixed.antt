@@ -15,7 +15,6 @@ use Rattle.definition.specs.Calls.{string_packsize}
 use Rattle.definition.specs.declared.State.{State}
 use Rattle.definition.specs.declared.Field.TheVariants.{Number, Chars, ZeroEnded, Counted}
 use Rattle.definition.specs.declared.Op.{Op}
-use Rattle.definition.specs.declared.Op.TheVariants as Op
 use Rattle.laws.specs.Claims.{is_open, of_field, has_open}
 use Rattle.laws.proofs.Answers.{silent_on, true_not_false}
 use Rattle.lengths.specs.Lengths.{range, extents, Places, places, onward, range_op, ranging, range_of, range_by, packsize_range}

@@ -12,7 +12,6 @@ use Rattle.definition.specs.States.{start, natural, longer, padding}
 use Rattle.definition.specs.declared.Field.{Field}
 use Rattle.definition.specs.declared.Field.TheVariants.{Number, Chars, ZeroEnded, Counted}
 use Rattle.definition.specs.declared.Op.{Op}
-use Rattle.definition.specs.declared.Op.TheVariants as Op
 use Rattle.laws.specs.Claims.{All, Listed}
 use Rattle.laws.proofs.Refusals.{Refuses, items_give, ByItem, fine, low_bind, low_check, low_up, among_all, low_silent, low_ops, low_padding, low_longer}
 use Rattle.laws.proofs.Numbered.{listed}

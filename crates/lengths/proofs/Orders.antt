@@ -9,7 +9,6 @@ use Rattle.definition.specs.Ops.{is_power}
 use Rattle.definition.specs.States.{set, further, alignment, fill, padding}
 use Rattle.definition.specs.declared.State.{State}
 use Rattle.definition.specs.declared.Setting.{Setting}
-use Rattle.definition.specs.declared.Setting.TheVariants as Setting
 use Rattle.laws.proofs.Answers.{same, bound, passed}
 use Rattle.laws.proofs.Fills.{fill_of_lem}
 

@@ -14,7 +14,6 @@ use Rattle.definition.specs.States.{start, further, longer, natural}
 use Rattle.definition.specs.declared.Field.{Field}
 use Rattle.definition.specs.declared.Field.TheVariants.{Number, Chars, ZeroEnded, Counted}
 use Rattle.definition.specs.declared.Op.{Op}
-use Rattle.definition.specs.declared.Op.TheVariants as Op
 use Rattle.laws.proofs.Answers.{never, same, bound, passed, silent_on}
 use Rattle.lengths.specs.Lengths.{range, pair_of, pair_for, extents, Places, places, paddings, onward, range_op, ranging, range_by, packsize_range}
 use Rattle.lengths.specs.declared.Range.{Range}

@@ -22,7 +22,6 @@ use Rattle.definition.specs.declared.Kind.TheVariants.{SmallSigned, SmallUnsigne
 use Rattle.definition.specs.declared.Field.{Field}
 use Rattle.definition.specs.declared.Field.TheVariants.{Number, Chars, ZeroEnded, Counted}
 use Rattle.definition.specs.declared.Op.{Op}
-use Rattle.definition.specs.declared.Op.TheVariants as Op
 use Rattle.laws.specs.Claims.{All, is_open}
 use Rattle.laws.proofs.Answers.{same, on}
 use Rattle.laws.proofs.Bytes.{pow_pos, length_coded}

@@ -15,7 +15,6 @@ use Rattle.definition.specs.declared.Kind.{Kind}
 use Rattle.definition.specs.declared.Field.{Field}
 use Rattle.definition.specs.declared.Field.TheVariants.{Number, Chars, ZeroEnded, Counted}
 use Rattle.definition.specs.declared.Op.{Op}
-use Rattle.definition.specs.declared.Op.TheVariants as Op
 use Rattle.laws.proofs.Answers.{never, same, Bound, bound, passed, silent_on}
 use Rattle.laws.proofs.Steps.{Roomy, longer_room}
 use Rattle.lengths.specs.Lengths.{range, pair_of, pair_for, extents, Places, places, paddings, onward, range_op, ranging}

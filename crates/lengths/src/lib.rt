@@ -1,4 +1,6 @@
 // A least and a greatest length. The definitions of document 02, Five, are in specs/, with what is claimed of them.
+#![tactic(auto)]
+
 ghost use Rattle.lengths.specs.Claims.{Ranges};
 ghost use Rattle.lengths.specs.Examples.{Examples};
 ghost use Rattle.lengths.specs.Premises.{Needed};

@@ -6,9 +6,8 @@ use mathlib.Core.Option.{some}
 use native.Mathlib.Omega.{arith}
 use lib.Dec.{T}
 use lib.ListN.{length, drop}
-use Rattle.definition.specs.Answers.{Checked, refused, accepted, ◌>>=◌, run, silent, run_silent}
+use Rattle.definition.specs.Answers.{Checked, refused, accepted, ◌>>=◌, silent}
 use Rattle.definition.specs.Options.{Table}
-use Rattle.definition.specs.Ops.{ops}
 use Rattle.definition.specs.declared.Op.{Op}
 use Rattle.laws.proofs.Ops.{Sizes, valid_op}
 use Rattle.format.specs.Steps.{op_at, next_at, next_of}
@@ -16,7 +15,7 @@ use Rattle.format.specs.declared.cursor.Cursor.{Cursor}
 use Rattle.format.specs.declared.cursor.Item.{Item}
 use Rattle.format.specs.declared.cursor.Next as cursor
 use Rattle.format.specs.declared.cursor.Next.TheVariants as Read
-use Rattle.format.proofs.Walking.{Walked, valid, ahead, walk_none, walk_end, walk_refusal, walk_refused, walk_on}
+use Rattle.format.proofs.Walking.{Walked, valid, ahead, walk_end, walk_refusal, walk_refused, walk_on}
 
 -- nothing, joined with nothing
 abbrev none_more : Unit {0} → Unit {0} → Unit {0}
@@ -35,35 +34,31 @@ pub record Ran {S : Type 0} (step : S → Op → Checked S) (t : Table) (w : Che
   pub is : w ≡ end_of walk
   pub walked : Walked (silent step) tt none_more t walk f at s tt
 
-module _ {S : Type 0} {step : S → Op → Checked S} {t : Table} {f : List ℕ} {at : ℕ} {s : S} where
-  pub run_none : {r : S} → at ≡ 0 → s ≡ r → Ran step t (run_silent step r (ops t f)) f at s
-  run_none e g = record { walk = run (silent step) tt none_more s (ops t f); is = rw (← g); walked = walk_none (silent step) tt none_more same same (λ a b c. refl) t f at s e }
+module _ {S : Type 0} {step : S → Op → Checked S} {t : Table} {f : List ℕ} {at : ℕ} {s : S} {w : Checked S} (h : Ran step t w f at s) where
+  ended : {v : Checked (S × Unit {0})} → h.walk ≡ v → end_of v ≡ w
+  ended e = sym (h.is ∙ ap end_of e)
 
-  module _ {w : Checked S} (h : Ran step t w f at s) where
-    ended : {v : Checked (S × Unit {0})} → h.walk ≡ v → end_of v ≡ w
-    ended e = sym (h.is ∙ ap end_of e)
+  -- the answer x of the cursor
+  module _ {x : cursor.Next} (n : next_of x ≡ next_at t at (drop at f)) where
+    pub run_end : x ≡ Read.End → accepted s ≡ w
+    run_end e = ended (walk_end (silent step) tt none_more same same (λ a b c. refl) h.walked (sym n ∙ ap next_of e))
 
-    -- the answer x of the cursor
-    module _ {x : cursor.Next} (n : next_of x ≡ next_at t at (drop at f)) where
-      pub run_end : x ≡ Read.End → accepted s ≡ w
-      run_end e = ended (walk_end (silent step) tt none_more same same (λ a b c. refl) h.walked (sym n ∙ ap next_of e))
+    pub run_refusal : {k : ℕ} → x ≡ Read.Refused k → refused k ≡ w
+    run_refusal e = ended (walk_refusal (silent step) tt none_more same same (λ a b c. refl) h.walked (sym n ∙ ap next_of e))
 
-      pub run_refusal : {k : ℕ} → x ≡ Read.Refused k → refused k ≡ w
-      run_refusal e = ended (walk_refusal (silent step) tt none_more same same (λ a b c. refl) h.walked (sym n ∙ ap next_of e))
+    -- an item that does o
+    module _ {i : Item} {d : Cursor} (e : x ≡ Read.Item i d) {o : Op} (p : o ≡ op_at i.entry i.operand) where
+      item : next_at t at (drop at f) ≡ accepted (some (o, d.at))
+      item = sym n ∙ ap next_of e ∙ ap (λ (j : Op). accepted (some (j, d.at))) (sym p)
 
-      -- an item that does o
-      module _ {i : Item} {d : Cursor} (e : x ≡ Read.Item i d) {o : Op} (p : o ≡ op_at i.entry i.operand) where
-        item : next_at t at (drop at f) ≡ accepted (some (o, d.at))
-        item = sym n ∙ ap next_of e ∙ ap (λ (j : Op). accepted (some (j, d.at))) (sym p)
+      pub run_valid : Sizes t → T (valid_op o)
+      run_valid sizes = valid t f at item sizes
 
-        pub run_valid : Sizes t → T (valid_op o)
-        run_valid sizes = valid t f at item sizes
+      pub run_less : length f - d.at < length f - at
+      run_less = omega (arith, ahead t f at item)
 
-        pub run_less : length f - d.at < length f - at
-        run_less = omega (arith, ahead t f at item)
+      pub run_refused : {k : ℕ} → refused k ≡ step s o → refused k ≡ w
+      run_refused z = ended (walk_refused (silent step) tt none_more same same (λ a b c. refl) h.walked item (rw (← z)))
 
-        pub run_refused : {k : ℕ} → refused k ≡ step s o → refused k ≡ w
-        run_refused z = ended (walk_refused (silent step) tt none_more same same (λ a b c. refl) h.walked item (rw (← z)))
-
-        pub run_on : {u v : S} → accepted u ≡ step s o → v ≡ u → Ran step t w f d.at v
-        run_on z g = record { walk = h.walk; is = h.is; walked = rw g (walk_on (silent step) tt none_more same same (λ a b c. refl) h.walked item (rw (← z))) }
+      pub run_on : {u v : S} → accepted u ≡ step s o → v ≡ u → Ran step t w f d.at v
+      run_on z g = record { walk = h.walk; is = h.is; walked = rw g (walk_on (silent step) tt none_more same same (λ a b c. refl) h.walked item (rw (← z))) }

@@ -1,6 +1,8 @@
 -- The integer that a float equals, by the float's bits: below 1 only 0 has one, and from 2 ^ 64 on none has. Between, with the exponent x, the
 -- float is its significand, the leading bit at 2 ^ 63, divided by 2 ^ (1086 - x), and it is whole where nothing is left.
-use Rattle.std.proofs.Common.{◌≡◌, ℕ, zero, suc, ◌+◌, ◌-◌, ◌*◌, ◌/◌, ◌%◌, ◌^◌, ◌<◌, ◌≤◌, Bool, true, false, cond, eqb, leb, pos, sym, refl, ap, ◌∙◌, le_trans, lt_of_lt_of_le, le-add_right, lt_of_le_of_lt, mul-le-mul_right, mod-lt, mod-eq_of_lt, mul-pos, div-add-mod', le-div_iff_mul-le, zero-mul, mul_right_comm, div-mul-le_self, arith, lit≤, pow_pos, pow_mono, pow-add, shl_lt, le-ltb, eq-eqb, ne_eqb, eqb-true}
+use Rattle.std.proofs.Common.{◌≡◌, ℕ, zero, suc, ◌+◌, ◌-◌, ◌*◌, ◌/◌, ◌%◌, ◌^◌, ◌<◌, ◌≤◌, Bool, true, false, cond, eqb, leb, pos, sym, refl, ap, ◌∙◌}
+use Rattle.std.proofs.Common.{le_trans, lt_of_lt_of_le, le-add_right, lt_of_le_of_lt, mul-le-mul_right, mod-lt, mod-eq_of_lt, mul-pos, div-add-mod', le-div_iff_mul-le, zero-mul, mul_right_comm, div-mul-le_self, arith, lit≤, pow_pos, pow_mono, pow-add, shl_lt, le-ltb, eq-eqb}
+use Rattle.std.proofs.Common.{ne_eqb, eqb-true}
 use mathlib.Core.Option.{none, some}
 use native.Mathlib.Nat.{eq_of_mul-eq-mul_right, div-eq_of_lt}
 use borrow.Author.Tests.{eqb-false}

@@ -1,5 +1,7 @@
 -- The remainder of a float by 2^64: it is exact.
-use Rattle.std.proofs.Common.{◌≡◌, ℕ, suc, ◌+◌, ◌-◌, ◌*◌, ◌%◌, ◌^◌, ◌<◌, ◌≤◌, Bool, true, false, not, T, leb, ℤ, pos, negsuc, sym, ap, ◌∙◌, le_trans, le_of_eq, lt_of_lt_of_le, le_of_suc-le-suc, lt_of_le_of_lt, add-zero, lt_irrefl, mod-lt, mod-eq_of_lt, mul_assoc, mul-le-mul_left, mul-pos, lt_of_not-le, zero-mul, mul-one, mul-div_cancel, arith, lit<, lit≤, leb→le, pow_pos, pow_mono, pow-add, shl_lt}
+use Rattle.std.proofs.Common.{◌≡◌, ℕ, suc, ◌+◌, ◌-◌, ◌*◌, ◌%◌, ◌^◌, ◌<◌, ◌≤◌, Bool, true, false, not, T, leb, ℤ, pos, negsuc, sym, ap, ◌∙◌}
+use Rattle.std.proofs.Common.{le_trans, le_of_eq, lt_of_lt_of_le, le_of_suc-le-suc, lt_of_le_of_lt, add-zero, lt_irrefl, mod-lt, mod-eq_of_lt, mul_assoc, mul-le-mul_left, mul-pos, lt_of_not-le, zero-mul, mul-one, mul-div_cancel, arith, lit<, lit≤, leb→le, pow_pos, pow_mono}
+use Rattle.std.proofs.Common.{pow-add, shl_lt}
 use native.Mathlib.Nat.{mod-le, mul-mod_left}
 use lib.Dec.{nleb→lt}
 use lib.Arith.{mod-mul}

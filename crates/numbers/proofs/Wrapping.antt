@@ -1,5 +1,7 @@
 -- T of a float, by the ways through the code: the sum with 2^64 below 0, and otherwise the remainder.
-use Rattle.std.proofs.Common.{◌≡◌, ℕ, zero, suc, ◌+◌, ◌-◌, ◌*◌, ◌/◌, ◌^◌, ◌<◌, ◌≤◌, Bool, true, false, ◌&&◌, ◌||◌, T, eqb, ltb, ℤ, pos, sym, refl, ap, ◌∙◌, subst, true≢false, le_of_eq, lt_of_lt_of_le, lt_of_le_of_lt, add-zero, lt_irrefl, zero-lt-suc, mul_comm, lt_of_mul-lt-mul_right, mul-lt-mul_of_pos_right, mul-pos, le-div_iff_mul-le, zero-mul, mul-one, mul_right_comm, arith, ltb→lt, lt→ltb, pow_pos, ltb-false, ltb-true, le-ltb, lt-ltb}
+use Rattle.std.proofs.Common.{◌≡◌, ℕ, zero, suc, ◌+◌, ◌-◌, ◌*◌, ◌/◌, ◌^◌, ◌<◌, ◌≤◌, Bool, true, false, ◌&&◌, ◌||◌, T, eqb, ltb, ℤ, pos, sym, refl, ap, ◌∙◌, subst}
+use Rattle.std.proofs.Common.{true≢false, le_of_eq, lt_of_lt_of_le, lt_of_le_of_lt, add-zero, lt_irrefl, zero-lt-suc, mul_comm, lt_of_mul-lt-mul_right, mul-lt-mul_of_pos_right, mul-pos, le-div_iff_mul-le, zero-mul, mul-one, mul_right_comm, arith, ltb→lt, lt→ltb, pow_pos}
+use Rattle.std.proofs.Common.{ltb-false, ltb-true, le-ltb, lt-ltb}
 use mathlib.Core.Bool.{false≢true}
 use native.Mathlib.Nat.{mul-sub, eq_of_mul-eq-mul_right, div-eq_of_lt}
 use lib.Count.{count_trailing_zeros}

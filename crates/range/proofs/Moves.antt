@@ -1,14 +1,12 @@
 -- What both lengths go on by: in order, the greatest by two steps, and with the limit kept.
 use Prim.Native.Nat.{ℕ, ◌+◌, ◌-◌, ◌^◌, ◌≤◌}
-use native.Mathlib.Omega.{arith}
 use mathlib.Core.Path.{◌≡◌, refl, sym, ap, ◌∙◌, subst}
 use mathlib.Core.List.{List, []}
 use lib.Dec.{T}
 use lib.ListN.{length, drop}
 use borrow.Author.Tests.{leb-true}
 use Rattle.definition.specs.Answers.{refused, accepted}
-use Rattle.definition.specs.States.{set, further, longer, padding}
-use Rattle.definition.specs.declared.Setting.{Setting}
+use Rattle.definition.specs.States.{further, longer, padding}
 use Rattle.definition.specs.declared.State.{State}
 use Rattle.definition.specs.declared.Field.{Field}
 use Rattle.definition.specs.declared.Op.{Op}
@@ -19,7 +17,7 @@ use Rattle.lengths.specs.Lengths.{range, extents, Places, places, paddings, onwa
 use Rattle.lengths.specs.declared.Range.{Range}
 use Rattle.lengths.proofs.Orders.{Before, item_before}
 use Rattle.lengths.proofs.Steps.{pad_went, put_went, taken_of, extents_order, step_before}
-use Rattle.range.specs.Places.{with_length, places_of, first_place}
+use Rattle.range.specs.Places.{with_length, places_of}
 use Rattle.range.specs.declared.Place.{Place}
 
 -- what both lengths have behind them stays in order
@@ -57,20 +55,11 @@ module _ (p : Place) (a m b n at : ℕ) where
 pub bytes_order : (f : Field) (q : List ℕ) (x : Range × List ℕ) → accepted x ≡ extents f q → x.0.least ≤ x.0.greatest
 bytes_order f q x e = extents_order f q x (taken_of f q x (sym e))
 
--- ---- a setting leaves both lengths
-pub set_moved : (p : Place) (q : List ℕ) (x : Setting) → accepted (places_of q (record { greatest = set x p.greatest; least = p.least; at = p.at })) ≡ range_op (places_of q p) (Op.Set x)
-unfolding range_op
-set_moved p q (Setting.Order o) = refl
-set_moved p q (Setting.Limit n) = refl
-
 -- ---- what holds of every place that is come to
 pub record Kept (q : List ℕ) (p : Place) : Type 0 where
   pub limited : Limited p.greatest
   pub order : p.least ≤ p.greatest.length
   pub inside : p.at ≤ length q
-
-pub first_kept : (q : List ℕ) → Kept q first_place
-first_kept q = record { limited = refl; order = omega arith; inside = omega arith }
 
 op_limited : (r t : Places) (o : Op) → range_op r o ≡ accepted t → T (valid_op o) → Limited r.greatest → Limited t.greatest
 unfolding range_op

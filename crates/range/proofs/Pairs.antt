@@ -1,15 +1,14 @@
--- The pair at an offset, check by check: none is left, its least is above its greatest, its greatest is too long, or it is taken.
-use Prim.Native.Nat.{ℕ, ◌+◌, ◌-◌, ◌^◌, ◌≤◌, ◌<◌}
+-- The pair at an offset, check by check: its least is above its greatest, its greatest is too long, or it is taken.
+use Prim.Native.Nat.{ℕ, ◌+◌, ◌≤◌, ◌<◌}
 use native.Mathlib.Nat.{add_comm}
 use native.Mathlib.Omega.{arith}
 use mathlib.Core.Path.{◌≡◌, refl, sym, ap, ◌∙◌}
 use mathlib.Core.Bool.{Bool, true, false}
 use mathlib.Core.List.{List}
-use lib.Dec.{leb, ltb}
+use lib.Dec.{leb}
 use lib.ListN.{length, take, drop, length-drop}
 use lib.Seq.{drop-drop}
-use borrow.Author.Tests.{leb-true, leb-false, le-leb, lt-leb, lt-ltb, le-ltb}
-use borrow.Table.Steps.{cases}
+use borrow.Author.Tests.{le-leb, lt-leb}
 use Rattle.definition.specs.Answers.{Checked, refused, accepted, ◌>>=◌}
 use Rattle.definition.specs.Lists.{big_total}
 use Rattle.values.specs.Loading.{Loaded}
@@ -17,9 +16,6 @@ use Rattle.definition.specs.declared.Field.TheVariants.{ZeroEnded}
 use Rattle.lengths.specs.Lengths.{range, pair_for, extents}
 use Rattle.lengths.specs.declared.Range.{Range}
 use Rattle.range.specs.Places.{text_extents}
-
-pub no_pair : (p : List ℕ) (at k : ℕ) (holds : ℕ → Bool) → length p - at < 4 → refused 11 ≡ text_extents holds k (drop at p)
-no_pair p at k holds h = rw (lt-leb 4 (length (drop at p)) (omega (arith, h, length-drop at p)))
 
 -- the lengths a and b stand at an offset
 pub record Pair (p : List ℕ) (at a b : ℕ) : Type 0 where
@@ -43,14 +39,6 @@ module _ {p : List ℕ} {at a b : ℕ} (q : Pair p at a b) (k : ℕ) (holds : �
 
   pub taken : a ≤ b → holds b ≡ true → accepted (range (k + a) (k + b), drop (at + 4) p) ≡ text_extents holds k (drop at p)
   taken h e = rw (q.there, q.least, q.greatest, le-leb a b h, e, drop-drop 4 at p)
-
--- a length of two bytes that n bytes hold
-pub one_byte : (m n : ℕ) → 1 ≤ n → n < 2 → ltb m (256 ^ n) ≡ leb m 255
-one_byte m n l h =
-    let e : n ≡ 1 = omega arith in
-    rw e (cases (leb m 255)
-    (λ t. lt-ltb m (256 ^ 1) (omega (arith, leb-true m 255 t)) ∙ sym t)
-    (λ t. le-ltb m (256 ^ 1) (omega (arith, leb-false m 255 t)) ∙ sym t))
 
 -- the zero behind the text of z
 pub with_zero : (p : List ℕ) → text_extents (λ m. true) 1 p ≡ extents ZeroEnded p

@@ -1,41 +1,29 @@
 -- The call, by what the two passes answer.
-use Prim.Native.Nat.{ℕ, suc, ◌+◌, ◌-◌, ◌^◌, ◌≤◌, ◌<◌}
+use Prim.Native.Nat.{ℕ, ◌-◌, ◌^◌, ◌≤◌, ◌<◌}
 use native.Mathlib.Omega.{arith}
 use mathlib.Core.Path.{◌≡◌, sym, ap, ◌∙◌}
-use mathlib.Core.Bool.{true, ◌&&◌}
+use mathlib.Core.Bool.{true}
 use mathlib.Core.List.{List}
-use lib.Dec.{leb, ltb}
-use lib.IntN.{ℤ, pos, negsuc}
+use lib.Dec.{leb}
+use lib.IntN.{ℤ}
 use lib.ListN.{length}
-use borrow.Author.Tests.{le-leb, lt-leb, leb-true}
+use borrow.Author.Tests.{le-leb, lt-leb}
 use Rattle.definition.specs.Answers.{Checked, refused, accepted, ◌>>=◌}
 use Rattle.definition.specs.Options.{Table, options}
 use Rattle.definition.specs.Values.{Value}
 use Rattle.definition.specs.Lists.{list_of}
 use Rattle.definition.specs.States.{start}
 use Rattle.definition.specs.Writing.{Place}
-use Rattle.definition.specs.Reading.{offset, position_of, offset_of, offset_in, at_offset, read}
+use Rattle.definition.specs.Reading.{position_of, offset_of, offset_in, at_offset, read}
 use Rattle.definition.specs.Calls.{Call, call, into, unpack, string_unpack}
 use Rattle.definition.specs.declared.State.{State}
 use Rattle.definition.specs.declared.Offset.{Offset}
 use Rattle.definition.specs.declared.Position.{Position}
 use Rattle.definition.specs.declared.Unpacked.{Unpacked}
-use Rattle.laws.proofs.Answers.{same, passed, both_parts}
 use Rattle.laws.proofs.Calls.{into_fits}
 use Rattle.laws.proofs.Traces.{listed, unpack_values_lem}
 use Rattle.decode.proofs.Numbers.{bind_bind}
-use Rattle.read_pass.specs.Runs.{read_at, Reads, Fits, list_into, list_after}
-
--- an offset of data is inside it
-pub offset_inside : (p : ℤ) (len : ℕ) {o : Offset} → accepted o ≡ offset_of p len → o.0 ≤ len
-offset_inside (pos p) len {o} e =
-    let q = passed (leb 1 p && leb p (len + 1)) 16 (accepted (offset (p - 1))) (sym e) in
-    let i : p - 1 ≡ o.0 = ap (λ (x : Offset). x.0) (same q.1) in
-    omega (arith, i, leb-true p (len + 1) (both_parts (leb 1 p) (leb p (len + 1)) q.0).1)
-offset_inside (negsuc k) len {o} e =
-    let q = passed (ltb k len) 16 (accepted (offset (len - suc k))) (sym e) in
-    let i : len - suc k ≡ o.0 = ap (λ (x : Offset). x.0) (same q.1) in
-    omega (arith, i)
+use Rattle.read_pass.specs.Runs.{read_at, Reads, list_into, list_after}
 
 -- a buffer that is shorter than the result
 into_short : {A : Type 0} (b : List ℕ) (a : A) (s : List ℕ) → length b < length s → into b (accepted (a, s)) ≡ call (refused 22) b
@@ -86,9 +74,6 @@ module _ (t : Table) (is : t ≡ options) (f d : List ℕ) (p : ℤ) (b : List �
         module _ (h : n ≤ length l) where
           exact : n ≡ length (list_of r.values)
           exact = omega (arith, r.counts, ap length kept)
-
-          pub call_fits : Fits t f d s l
-          call_fits = record { next = r.next; values = r.values; accepts = r.accepts; room = omega (arith, exact) }
 
           pub call_read : {k : List ℕ} {v : Position} → k ≡ list_after t f d s l → v ≡ position_of u → call_with n v k ≡ string_unpack f d p b
           call_read {k} q i =

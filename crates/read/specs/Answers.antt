@@ -4,7 +4,6 @@ use Rattle.definition.specs.Answers.{refused, accepted}
 use Rattle.definition.specs.Calls.{Call, call}
 use Rattle.definition.specs.declared.Unpacked.{Unpacked}
 use Rattle.read.specs.declared.Unpacking.{Unpacking}
-use Rattle.read.specs.declared.Unpacking.TheVariants as Unpacking
 
 -- with what the list buffer holds afterwards
 abbrev pub call_of : Unpacking → List ℕ → Call Unpacked

@@ -1,4 +1,5 @@
 // Reads the values of a format in data.
+#![tactic(auto)]
 
 ghost use Rattle.std.specs.Prelude.{◌≡◌};
 ghost use Rattle.definition.specs.Calls.{string_unpack};

@@ -27,8 +27,8 @@ use Rattle.fetch.specs.Fetching.{Stands, place_in, FetchedStands, Fetches}
 use Rattle.decode.specs.declared.Reading.{Reading}
 use Rattle.fetch.specs.declared.Fetched.{Fetched}
 use Rattle.align.specs.Amounts.{SameTo63}
-use Rattle.read_pass.specs.Runs.{read_at, size_of, Short, Reads, Fits, list_into, list_after}
-use Rattle.read_pass.proofs.Sizes.{no_values, list_parts, size_is, short}
+use Rattle.read_pass.specs.Runs.{read_at, size_of, Reads, Fits, list_into, list_after}
+use Rattle.read_pass.proofs.Sizes.{no_values, list_parts, size_is}
 use Rattle.read_pass.proofs.Runs.{SoFar, from_start, run_end, run_refusal, item_refused, item_set, item_read}
 
 -- x at the front of b
@@ -124,9 +124,6 @@ module _ {t : Table} {f d : List ℕ} {s₀ : State} {b : List ℕ} {put : Bool}
 
       next : SoFar t f d (read_at t f d s₀) p (at_offset s o') more
       next = item_read h.so_far q g e
-
-      pub passing_short : Short v
-      passing_short = short d v inside
 
       module _ (i : put ≡ true) (below : length b < 2 ^ 63) where
         exact : total ≡ length sofar

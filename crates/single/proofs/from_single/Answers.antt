@@ -1,7 +1,6 @@
 -- `single::from_single` meets its contract: the sign goes apart (`double_sign`), and the sum is below 2 ^ 64 as what it is equal to. Assumes nothing.
 use mathlib.Core.Path.{◌≡◌, sym, ap, ◌∙◌}
 use Prim.Native.Nat.{ℕ, ◌+◌, ◌*◌, ◌/◌, ◌^◌}
-use borrow.Author.Rules.{rules}
 use Rattle.single.specs.Single.{from_single}
 use Rattle.single.proofs.Widening.{double_lt, double_sign}
 use Rattle.single.proofs.from_single.Goals as goal

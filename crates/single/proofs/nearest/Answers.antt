@@ -5,7 +5,6 @@ use native.Mathlib.Nat.{one-mul, mul_comm, mul-pos, pow-succ', mod-eq_of_lt, div
 use native.Mathlib.Omega.{arith}
 use lib.Pow.{pow_pos, pow-lt}
 use lib.Ieee.Nearest.{closest}
-use borrow.Author.Rules.{rules}
 use Rattle.single.proofs.Closest.{half_down, half_up, half_even}
 use Rattle.single.proofs.nearest.Goals as goal
 use Rattle.single.proofs.nearest.Goals.{Start}

@@ -3,7 +3,6 @@ use mathlib.Core.Path.{◌≡◌, sym, ap, ◌∙◌}
 use Prim.Native.Nat.{ℕ, ◌+◌, ◌*◌, ◌/◌, ◌^◌}
 use native.Mathlib.Nat.{lt_of_lt_of_le}
 use lib.Dec.{lit≤}
-use borrow.Author.Rules.{rules}
 use Rattle.single.specs.Single.{to_single}
 use Rattle.single.proofs.Rounding.{single_lt, single_sign}
 use Rattle.single.proofs.to_single.Goals as goal

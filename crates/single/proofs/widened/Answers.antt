@@ -6,7 +6,6 @@ use native.Mathlib.Nat.{lt_of_lt_of_le, mod-eq_of_lt}
 use native.Mathlib.Omega.{arith}
 use lib.Dec.{lit≤}
 use lib.Count.{count_leading_zeros}
-use borrow.Author.Rules.{rules}
 use Rattle.single.specs.Single.{from_single}
 use Rattle.single.proofs.Widening.{Raised, raised, double_lt, from_zero, from_subnormal, from_normal, from_infinity, from_nan}
 use Rattle.single.proofs.widened.Goals as goal
