@@ -22,13 +22,10 @@ use Rattle.laws.proofs.Answers.{never, same, same_number}
 use Rattle.laws.proofs.Demand.{demand}
 use Rattle.measure.specs.Measured.{measured_of}
 use Rattle.measure.specs.declared.Measured.{Measured}
-use Rattle.measure.specs.declared.Measured.TheVariants as Measured
 use Rattle.read.specs.Answers.{call_of}
 use Rattle.read.specs.declared.Unpacking.{Unpacking}
-use Rattle.read.specs.declared.Unpacking.TheVariants as Unpacking
 use Rattle.write.specs.Answers.{packed_call_of}
 use Rattle.write.specs.declared.Packed.{Packed}
-use Rattle.write.specs.declared.Packed.TheVariants as Packed
 
 -- a size, or 10, as the format has z or s
 size : (z : Bool) (m n : ℕ) → accepted m ≡ cond z (refused 10) (accepted n) → m ≡ n

@@ -1,4 +1,6 @@
 // What the claims say of calls that are made one after the other, as contracts.
+#![tactic(auto)]
+
 ghost use Rattle.std.specs.Prelude.{◌≡◌, true};
 ghost use Rattle.laws.specs.Claims.{Readable};
 

@@ -1,5 +1,7 @@
 // The calls under C names. Each returns 0 and fills its answer, or returns a refusal's number and changes nothing; a tray's place
 // is told in both cases.
+#![tactic(auto)]
+
 ghost use Rattle.std.specs.Prelude.{◌≡◌};
 ghost use Rattle.definition.specs.Answers.{accepted};
 ghost use Rattle.definition.specs.Lists.{offset_after};

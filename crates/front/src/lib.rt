@@ -1,4 +1,6 @@
 // The settings at a format's front, which need no value and put no byte.
+#![tactic(auto)]
+
 ghost use Rattle.laws.proofs.Ops.{Sizes};
 ghost use Rattle.options.specs.Packed.{table_at};
 ghost use Rattle.front.specs.Leading.{Leads};

@@ -9,7 +9,6 @@ use Rattle.definition.specs.Trays.{Placed, records_of, tray_into, pack_tray}
 use Rattle.laws.proofs.Calls.{into_fits}
 use Rattle.tray.specs.Walks.{Counted, Told, put_in, tray_call_of}
 use Rattle.tray.specs.declared.Tray.{Tray}
-use Rattle.tray.specs.declared.Tray.TheVariants as Tray
 
 -- w are the records of a format f and a run r; g is the buffer after the first walk, which is as it was
 module _ (f r b : List ℕ) {w : Placed (List ℕ)} (are : w ≡ records_of f r) {g : List ℕ} (kept : g ≡ b) where

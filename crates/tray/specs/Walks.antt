@@ -8,7 +8,6 @@ use Rattle.definition.specs.declared.State.{State}
 use Rattle.align.specs.Amounts.{SameTo63}
 use Rattle.values.specs.Meaning.{is_accepted}
 use Rattle.tray.specs.declared.Tray.{Tray}
-use Rattle.tray.specs.declared.Tray.TheVariants as Tray
 
 -- ---- the records of a format f, each laid out from the state s
 

@@ -1,4 +1,6 @@
 // A tray: the records of one format with each value list of a run, back to back.
+#![tactic(auto)]
+
 ghost use Rattle.std.specs.Prelude.{◌≡◌, ◌++◌, ◌≤◌, length, drop};
 ghost use Rattle.definition.specs.Options.{options};
 ghost use Rattle.definition.specs.Calls.{pack};

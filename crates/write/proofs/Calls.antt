@@ -26,7 +26,6 @@ use Rattle.write.specs.Answers.{continued_call_of}
 use Rattle.write_pass.specs.Walks.{answer_of}
 use Rattle.write_pass.specs.Walks.{values_of, summed, put_at}
 use Rattle.write_pass.specs.declared.Total.{Total}
-use Rattle.write_pass.specs.declared.Total.TheVariants as Total
 use Rattle.write_pass.proofs.Stepping.{list_known}
 use Rattle.emit.proofs.Pasting.{paste_whole}
 

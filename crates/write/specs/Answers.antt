@@ -4,7 +4,6 @@ use Rattle.definition.specs.Answers.{refused, accepted}
 use Rattle.definition.specs.Calls.{Call, call}
 use Rattle.definition.specs.declared.Continued.{Continued}
 use Rattle.write.specs.declared.Packed.{Packed}
-use Rattle.write.specs.declared.Packed.TheVariants as Packed
 use Rattle.write_pass.specs.declared.Total.{Total}
 use Rattle.write_pass.specs.Walks.{answer_of}
 

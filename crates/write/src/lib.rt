@@ -1,4 +1,5 @@
 // Writing: the values of a list, by a format, into a lent buffer.
+#![tactic(auto)]
 
 ghost use Rattle.std.specs.Prelude.{◌≡◌};
 ghost use Rattle.definition.specs.Calls.{pack_continued, string_pack};

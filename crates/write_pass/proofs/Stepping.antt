@@ -19,7 +19,6 @@ use Rattle.store.specs.Texts.{text_bytes, counted_bytes}
 use Rattle.plan.specs.Plans.{Wrote, ItemPlan, ItemAt}
 use Rattle.word.specs.Words.{fill_of}
 use Rattle.plan.specs.declared.item.Plan.{Plan}
-use Rattle.plan.specs.declared.item.Plan.TheVariants as Plan
 use Rattle.write_pass.specs.Walks.{listed, values_of, put_at, taken, written, Moved}
 use Rattle.write_pass.specs.declared.Progress.{Progress}
 

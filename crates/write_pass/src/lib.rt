@@ -1,4 +1,6 @@
 // A pass over a format: every check, the totals, and where it is asked for, the record.
+#![tactic(auto)]
+
 ghost use Rattle.std.specs.Prelude.{◌≡◌, true, cond, ◌+◌, ◌-◌, ◌^◌, ◌<◌, ◌≤◌, T, length, drop};
 ghost use Rattle.definition.specs.Lists.{values};
 ghost use Rattle.definition.specs.Writing as writing;
@@ -69,12 +71,12 @@ fn past_value(p: Progress, n: u64, at: usize) -> Progress
 
 // Past one item, whose bytes go to w where they are put.
 fn advance(list: &[u8], p: Progress, op: Op, out: &mut [u8], w: usize, put: bool) -> Step
-    requires progress_1 { Sound p.state }
-    requires progress_2 { is_accepted (values (drop p.at list.now)) ≡ true }
-    requires progress_3 { p.items < 2 ^ 63 }
-    requires progress_4 { p.used < 2 ^ 63 }
-    requires item_1 { T (valid_op op) }
-    requires item_2 { (put ≡ true → FitsAt (length out.old) w (written list.now p op)) }
+    requires sound { Sound p.state }
+    requires list_sound { is_accepted (values (drop p.at list.now)) ≡ true }
+    requires items_fit { p.items < 2 ^ 63 }
+    requires used_fit { p.used < 2 ^ 63 }
+    requires valid_op { T (valid_op op) }
+    requires room { (put ≡ true → FitsAt (length out.old) w (written list.now p op)) }
     ensures step { Stepped list.now p op result }
     ensures bytes { out.new ≡ cond put (put_at out.old w (written list.now p op)) out.old }
 {

@@ -1,5 +1,5 @@
 -- The settings at the format's front, the first walk, 22, and the second walk.
-use Rattle.std.proofs.Common.{◌≡◌, ◌-◌, ◌^◌, ◌<◌, arith, subst, length, take, drop}
+use Rattle.std.proofs.Common.{◌≡◌, ◌-◌, arith, subst, length, take, drop}
 use Rattle.definition.specs.Options.{Table, options}
 use Rattle.definition.specs.Trays.{records_of}
 use Rattle.front.specs.Leading.{Leads}

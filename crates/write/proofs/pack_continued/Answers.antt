@@ -1,5 +1,5 @@
 -- 21 first of all, the first pass, 22, and the second pass.
-use Rattle.std.proofs.Common.{◌≡◌, sym, ◌∙◌, subst, refl}
+use Rattle.std.proofs.Common.{sym, ◌∙◌, subst, refl}
 use Rattle.definition.specs.Options.{options}
 use Rattle.laws.proofs.Ops.{Sizes, options_sizes}
 use Rattle.options.specs.Packed.{packed, table_at}

@@ -24,11 +24,11 @@ pub returns-in-Refused : goal.returns-in-Refused
 returns-in-Refused c =
     let e = passing_refusal c.loop-k.invariant.0 c.requires.room (sym c.in-Refused.ensures) in record { total = e.0; bytes = e.1 }
 
-pub advance-requires-clause-item_1 : goal.advance-requires-clause-item_1
-advance-requires-clause-item_1 c = item_valid c.loop-k.invariant.0 (item (goal.at.advance-requires-clause-item_1 c).After-op) c.requires.sizes
+pub advance-requires-clause-valid_op : goal.advance-requires-clause-valid_op
+advance-requires-clause-valid_op c = item_valid c.loop-k.invariant.0 (item (goal.at.advance-requires-clause-valid_op c).After-op) c.requires.sizes
 
-pub advance-requires-clause-item_2 : goal.advance-requires-clause-item_2
-advance-requires-clause-item_2 c = passing_fits c.loop-k.invariant.0 c.requires.room (item (goal.at.advance-requires-clause-item_2 c).After-op) c.loop-k.invariant.1
+pub advance-requires-clause-room : goal.advance-requires-clause-room
+advance-requires-clause-room c = passing_fits c.loop-k.invariant.0 c.requires.room (item (goal.at.advance-requires-clause-room c).After-op) c.loop-k.invariant.1
 
 pub returns-in-Refused-advance : goal.returns-in-Refused-advance
 returns-in-Refused-advance c =
