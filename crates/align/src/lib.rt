@@ -99,6 +99,7 @@ fn lesser(a: u64, b: u64) -> u64
 }
 
 // Whether n is a power of two of 1 to 16: one that has no bit in common with n - 1.
+#[tactic(auto, using(crate::proofs::Powers::power_mask, crate::proofs::Powers::power_none))]
 pub fn is_power(n: u64) -> bool
     ensures { result ≡ is_power n }
 {
@@ -152,6 +153,7 @@ fn fill(a: u64, n: u64) -> u64
 
 // The zeros that bring the state to a natural alignment, or 6. Of what doesn't align no remainder is worked out. No limit is
 // above 16, so the bits of an alignment alone tell whether it is a power of two.
+#[tactic(auto, using(crate::proofs::Powers::unaligned))]
 pub fn padding(s: State, natural: u64) -> Amount
     requires limited { Limited s }
     requires positive { 1 ≤ natural }

@@ -1,6 +1,6 @@
 -- Months on and the last day, as the code works them out.
 use Prim.Native.Nat.{ℕ, zero, suc, ◌+◌, ◌-◌, ◌≤◌, ◌<◌}
-use mathlib.Core.Path.{◌≡◌, refl, ap, ◌∙◌}
+use mathlib.Core.Path.{◌≡◌, refl, sym, ap, ◌∙◌}
 use mathlib.Core.Bool.{true}
 use native.Mathlib.Nat.{le_trans}
 use native.Mathlib.Omega.{arith}
@@ -8,14 +8,15 @@ use lib.Dec.{leb, lit≤}
 use lib.IntN.{ℤ, pos, negsuc}
 use borrow.Table.Steps.{cases}
 use borrow.Author.Tests.{leb-true, leb-false, lt-ltb, le-ltb}
-use Rattle.definition.specs.Answers.{accepted}
+use Rattle.definition.specs.Answers.{accepted, refused}
 use Rattle.laws.proofs.Answers.{never}
 use Rattle.calendar.specs.Calendar.{date, is_leap, days_before, length_at, is_date, date_after, month_on, months_on, end_before, date_of}
 use Rattle.calendar.specs.declared.Date.{Date}
 use Rattle.calendar.proofs.Dates.{Valid, first, days_are, dated}
 use Rattle.calendar.proofs.Months.{Sought, long, follows, months_follow, end_is}
 use Rattle.calendar.proofs.Calls.{day_of_lem}
-use Rattle.calendar.proofs.Conversions.{late}
+use Rattle.calendar.proofs.Conversions.{late, counted}
+use Rattle.calendar.specs.Claims.{number_of}
 use Rattle.dates.specs.Fourth.{Later}
 use Rattle.dates.proofs.Counting.{at_most_31}
 use Rattle.calendar.proofs.Existence.{to_28}
@@ -115,3 +116,7 @@ later k d v y a b =
       days = omega (arith, q.1, l, v.within);
       after = omega (arith, first_day (months_on k d), after_it k d s a);
     }
+
+-- no day of a year after 2179 fits two bytes
+pub late_year : (y m k : ℕ) → is_date (date y m k) ≡ true → 2179 < y → refused 25 ≡ number_of (date y m k)
+late_year y m k v h = sym (counted.too_late (date y m k) v h)

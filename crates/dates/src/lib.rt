@@ -198,6 +198,7 @@ fn in_two_bytes(n: u64) -> Day
 }
 
 // The day number of a date from 2000 on: 24 if there is no such date, 25 if two bytes don't hold it.
+#[tactic(auto, using(crate::proofs::Passing::late_year))]
 fn number_of(year: u64, month: u64, day: u64) -> Day
     requires { 2000 ≤ year }
     ensures { day_of result ≡ number_of (date year month day) }
@@ -212,6 +213,7 @@ fn number_of(year: u64, month: u64, day: u64) -> Day
 }
 
 // The day number of a date: 24 if there is no such date or its year is before 2000, 25 if two bytes don't hold it.
+#[tactic(auto, using(crate::proofs::Signs::year_below, crate::proofs::Signs::month_below, crate::proofs::Signs::day_below))]
 pub fn day_number(year: i64, month: i64, day: i64) -> Day
     ensures { day_of result ≡ day_number year month day }
 {

@@ -62,6 +62,9 @@ length_20 n = length_decimal 20 n
 pub one_digit : (o : List ℕ) (at n x : ℕ) → n < 10 → x ≡ 48 + n → at < length o → (at + 1 ≡ at + length (decimal n)) × (set o at x ≡ put o at (decimal n))
 one_digit o at n x h e i = (ap (λ (l : List ℕ). at + length l) (sym (decimal_small n h)), ap (set o at) e ∙ set_paste o at (48 + n) i ∙ ap (put o at) (sym (decimal_small n h)))
 
+pub length_small : (n : ℕ) → n < 10 → length (decimal n) ≡ 1
+length_small n h = rw (decimal_small n h)
+
 -- after the digits of n / 10, which end at the place p and leave the buffer as b, the last digit
 module _ (o : List ℕ) (at n p : ℕ) (b : List ℕ) (f : n < 2 ^ 64) (r : at + 20 ≤ length o) (e : p ≡ at + length (decimal (n / 10))) where
   pub digit_inside : length b ≡ length o → p < length b

@@ -29,6 +29,7 @@ fn first_line(input: &[u8]) -> usize
 }
 
 // Whether the answer to an input stands, whatever follows it: its first line is complete, or too long.
+#[tactic(auto, using(crate::proofs::Inputs::settled_long, crate::proofs::Inputs::settled_short))]
 pub fn is_settled(input: &[u8]) -> bool
     ensures told { result ≡ settled input.now }
     ensures stands { result ≡ true → Stands input.now }
@@ -67,6 +68,7 @@ fn digit(d: u64) -> u8
 }
 
 // Puts a number in decimal at a place; the place after it.
+#[tactic(auto, using(crate::proofs::Buffers::one_digit, crate::proofs::Buffers::length_small))]
 fn put_decimal(out: &mut [u8], at: usize, n: u64) -> usize
     requires { at + 20 ≤ length out.old }
     ensures after { result ≡ at + length (decimal n) }

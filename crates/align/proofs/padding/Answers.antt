@@ -1,10 +1,6 @@
 -- The lesser of a natural alignment and the limit is one of 1 to 16, and its bits tell whether it is a power of two.
-use Rattle.align.proofs.Powers.{unaligned, aligned, no_power}
+use Rattle.align.proofs.Powers.{aligned, no_power}
 use Rattle.align.proofs.padding.Goals as goal
-
-pub returns-then-a-lt2 : goal.returns-then-a-lt2
-returns-then-a-lt2 c =
-    unaligned c.args.s _ _ c.lesser-a.ensures c.requires.limited c.requires.positive c.if-a-lt2.true
 
 pub returns-then-a-eq0 : goal.returns-then-a-eq0
 returns-then-a-eq0 c =

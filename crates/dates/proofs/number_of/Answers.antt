@@ -4,7 +4,6 @@ use mathlib.Core.Bool.{true}
 use Rattle.calendar.specs.Calendar.{date, is_date, in_two_bytes}
 use Rattle.calendar.proofs.Calls.{number_is}
 use Rattle.calendar.proofs.Existence.{no_date}
-use Rattle.calendar.proofs.Conversions.{counted}
 use Rattle.dates.proofs.number_of.Goals as goal
 use Rattle.dates.proofs.number_of.Goals.{Else-not-is_date}
 
@@ -14,10 +13,6 @@ there c = sym c.before.is_date.ensures ∙ c.if-not-is_date.false
 pub returns-then-not-is_date : goal.returns-then-not-is_date
 returns-then-not-is_date c =
     sym (no_date _ (sym c.is_date.ensures ∙ c.if-not-is_date.true))
-
-pub returns-then-year-gt2179 : goal.returns-then-year-gt2179
-returns-then-year-gt2179 c =
-    sym (counted.too_late _ (there (goal.at.returns-then-year-gt2179 c).Else-not-is_date) c.if-year-gt2179.true)
 
 pub returns : goal.returns
 returns c =

@@ -1,11 +1,7 @@
 -- The last digit comes after the digits of n / 10.
 use native.Mathlib.Omega.{arith}
-use Rattle.line.proofs.Buffers.{one_digit, digit_inside, last_digit}
+use Rattle.line.proofs.Buffers.{digit_inside, last_digit}
 use Rattle.line.proofs.+put_decimal.Goals as goal
-
-pub returns-then-n-lt10 : goal.returns-then-n-lt10
-returns-then-n-lt10 t c =
-    let d = one_digit c.args.out.now c.args.at c.args.n _ c.if-n-lt10.true c.digit.ensures (omega arith) in record { after = d.0; holds = d.1 }
 
 pub bounds-out-i : goal.bounds-out-i
 bounds-out-i t c =
@@ -17,4 +13,4 @@ pub returns : goal.returns
 returns t c =
     let a = c.args in
     let r = c.put_decimal-i in
-    let d = last_digit a.out.now a.at a.n r.result r.new.out c.ranges.n.fits c.requires r.ensures.after c.digit-2.result c.if-n-lt10.false r.ensures.holds c.digit-2.ensures in record { after = d.0; holds = d.1 }
+    let d = last_digit a.out.now a.at a.n r.result r.new.out c.ranges.n.fits c.requires r.ensures.after c.digit-2.result (omega arith) r.ensures.holds c.digit-2.ensures in record { after = d.0; holds = d.1 }
