@@ -2,10 +2,9 @@
  * Digribbon: Lua's string.packsize, string.pack and string.unpack over lent memory, with continued writing, trays of
  * records and record lengths before the texts are known; and validity dates as day numbers.
  *
- * The archive is for x86-64 Linux. Link it, and behind it the math library, which the remainder of a float under T
- * needs:
+ * The archive is for x86-64 Linux, and needs nothing but the C library:
  *
- *     cc -I hosts/include host.c target/staticlib/libdigribbon.a -lm
+ *     cc -I hosts/include host.c target/staticlib/libdigribbon.a
  *
  * Every call
  *   - returns 0 and fills its answer, or returns a refusal's number (DIGRIBBON_REFUSALS below). A refusal changes no
