@@ -26,21 +26,21 @@ differs (fin false m e) = ap (λ (b : Bool). not (b && true)) (eq-eqb (m * up e 
 pub a_number : (x : Float) → ne x x ≡ false → T (not (is_nan x))
 a_number x h = subst (λ (b : Bool). T (not b)) (sym (sym (differs x) ∙ h)) tt
 
-neg-odd : (d q k l : ℕ) → neg (odd d false q k l) ≡ odd d true q k l
+neg_odd : (d q k l : ℕ) → neg (odd d false q k l) ≡ odd d true q k l
 unfolding neg odd
-neg-odd d zero k l = refl
-neg-odd d (suc q) k l = refl
+neg_odd d zero k l = refl
+neg_odd d (suc q) k l = refl
 
-neg-units : (q k : ℕ) → neg (units binary64 false q k) ≡ units binary64 true q k
+neg_units : (q k : ℕ) → neg (units binary64 false q k) ≡ units binary64 true q k
 unfolding units neg
-neg-units q k = go (ltb (q * 2 ^ k) (2 ^ 2098))
+neg_units q k = go (ltb (q * 2 ^ k) (2 ^ 2098))
   where
     go : (b : Bool) → neg (cond b (odd 54 false q k 1074) (inf false)) ≡ cond b (odd 54 true q k 1074) (inf true)
-    go true = neg-odd 54 q k 1074
+    go true = neg_odd 54 q k 1074
     go false = refl
 
-neg-round : (a c : ℕ) → neg (round binary64 false a c) ≡ round binary64 true a c
-neg-round a c = ap neg (round_is binary64 false a c) ∙ neg-units _ _ ∙ sym (round_is binary64 true a c)
+neg_round : (a c : ℕ) → neg (round binary64 false a c) ≡ round binary64 true a c
+neg_round a c = ap neg (round_is binary64 false a c) ∙ neg_units _ _ ∙ sym (round_is binary64 true a c)
 
 -- two floats of one value are one float
 same_value : (x y : Float) (s : Bool) (a : ℕ) → T (fits binary64 x) → T (fits binary64 y) → HasValue x s a (2 ^ 1074) → HasValue y s a (2 ^ 1074) → x ≡ y
@@ -154,4 +154,4 @@ module _ (x : Float) (f : T (fits binary64 x)) where
 
     pub negative : 2 ^ 63 ≤ b → neg r ≡ rem binary64 x two64
     unfolding of_int
-    negative n = ap neg is ∙ neg-round ((2 ^ 52 + t) * 2 ^ (exponent - 1075) % 2 ^ 64) 1 ∙ ap (λ (z : Bool). round binary64 z ((2 ^ 52 + t) * 2 ^ (exponent - 1075) % 2 ^ 64) 1) (sym (le-leb (2 ^ 63) b n)) ∙ large l h
+    negative n = ap neg is ∙ neg_round ((2 ^ 52 + t) * 2 ^ (exponent - 1075) % 2 ^ 64) 1 ∙ ap (λ (z : Bool). round binary64 z ((2 ^ 52 + t) * 2 ^ (exponent - 1075) % 2 ^ 64) 1) (sym (le-leb (2 ^ 63) b n)) ∙ large l h

@@ -46,7 +46,7 @@ const EXPONENT_OF_1: u64 = 1023;
 
 const EXPONENT_OF_TOP: u64 = 1023 + 63;
 
-// The exponent whose significand's last bit is 1, and that of infinity.
+// The exponent at which the significand's last bit counts 1, and that of infinity.
 const EXPONENT_OF_LAST: u64 = 1023 + 52;
 
 const EXPONENT_OF_INFINITY: u64 = 2047;
@@ -114,7 +114,7 @@ fn bits_of(n: i64) -> u64
     }
 }
 
-// The lowest 64 bits of a float's whole number, by its bits, from 2^64 on.
+// Of a float of 2^64 or more, whatever its sign, by its bits: the lowest 64 bits of its whole number.
 fn low_bits(bits: u64) -> u64
     requires { 1087 ≤ bits % 2 ^ 63 / 2 ^ 52 }
     ensures { result ≡ (2 ^ 52 + bits % 2 ^ 52) * 2 ^ (bits % 2 ^ 63 / 2 ^ 52 - 1075) % 2 ^ 64 }
@@ -127,7 +127,7 @@ fn low_bits(bits: u64) -> u64
 }
 
 // The remainder by 2^64, by the float's bits: for `%` Rattle's own compiler calls the C library's fmod, at a version that not every
-// machine has.
+// machine has. Of the low 64 bits at most 53 are not 0, so their conversion is exact in every rounding mode.
 fn remainder(x: f64) -> f64
     ensures { result ≡ rem binary64 x (fin false 1 (pos 64)) }
 {

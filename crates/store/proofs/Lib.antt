@@ -1,1 +1,2 @@
 pub mod Pasting
+pub mod Bytes

@@ -9,6 +9,7 @@ ghost use Rattle.words.specs.Digits.{byte_of};
 use words::place;
 
 // The byte k of a word, counted from its lowest, and above eight the fill.
+#[tactic(auto, using(crate::proofs::Bytes::byte_of_word, crate::proofs::Bytes::byte_of_fill))]
 fn byte_of(word: u64, fill: u8, k: usize) -> u8
     ensures { result ≡ byte_of word fill k }
 {

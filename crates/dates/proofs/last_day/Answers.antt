@@ -13,11 +13,12 @@ use Rattle.dates.specs.declared.Dated.TheVariants as Dated
 use Rattle.dates.specs.Answers.{dated_of}
 use Rattle.dates.proofs.Signs.{from_bound, months_below, by_first}
 use Rattle.dates.proofs.Passing.{first_valid, later}
+use borrow.Author.Rules.{rules}
 use Rattle.dates.proofs.last_day.Goals as goal
 use Rattle.dates.proofs.last_day.Goals.{After-date_of, After-extent-k}
 
 months : (c : After-extent-k) → (c.before.before.args.months ≡ pos c.extent-k.result) × (1 ≤ c.extent-k.result)
-months c = from_bound _ 1 _ c.before.before.ranges.months c.before.if-months-lt1.false c.extent-k.ensures
+months c = from_bound _ 1 _ c.before.before.ranges.months (search rules) c.extent-k.ensures
 
 -- the months are 1 to 12: what the first day decides
 decided : (c : After-date_of) → last_day c.before.before.before.before.args.first c.before.before.before.before.args.months
@@ -25,7 +26,7 @@ decided : (c : After-date_of) → last_day c.before.before.before.before.args.fi
 decided c =
     let m = months c.before.before in
     let q = c.date_of.ensures ∙ ap date_of (to_z-of_z c.before.before.before.before.ranges.first) in
-    rw (m.0, q) (by_first _ _ m.1 c.before.if-k-gt12.false)
+    rw (m.0, q) (by_first _ _ m.1 (omega arith))
 
 -- the first day's date
 first : (c : After-date_of) (d : Date) → c.date_of.result ≡ Dated.Date d → Valid d × (d.year ≤ 2179)
@@ -43,13 +44,13 @@ returns-then-k-gt12 c =
 
 pub months_on-requires : goal.months_on-requires
 months_on-requires c =
-    let v = first (goal.at.months_on-requires c).After-date_of _ c.in-Date.is in (v.0.from, v.0.to, v.1, c.if-k-gt12.false)
+    let v = first (goal.at.months_on-requires c).After-date_of _ c.in-Date.is in (v.0.from, v.0.to, v.1, omega arith)
 
 pub end_before-requires : goal.end_before-requires
 end_before-requires c =
     let v = first (goal.at.end_before-requires c).After-date_of _ c.in-Date.is in
     let m = months (goal.at.end_before-requires c).After-extent-k in
-    rw c.months_on.ensures (later _ _ v.0 v.1 m.1 c.if-k-gt12.false)
+    rw c.months_on.ensures (later _ _ v.0 v.1 m.1 (omega arith))
 
 pub returns-in-Refused : goal.returns-in-Refused
 returns-in-Refused c =

@@ -66,4 +66,4 @@ overflow_add-result-2 c =
 
 pub returns : goal.returns
 returns c =
-    gives (goal.at.returns c).Start _ (half_even _ _ (positive (goal.at.returns c).Start) c.if-n-half-eq0.false c.if-n-half-gt0.false)
+    gives (goal.at.returns c).Start _ (half_even _ _ (positive (goal.at.returns c).Start) c.if-n-half-eq0.false (omega arith))

@@ -14,8 +14,8 @@ take_split a n old new front =
     ap (λ l. l ++ slice_range new a (a + n)) (sym front) ∙ ap (λ k. take a new ++ take k (drop a new)) same ∙ sym (take-add a n new)
 
 -- the front of a part that was put back stands at its place
-slice_range-put_mid : (a k n : ℕ) (xs ys : List ℕ) → a ≤ length xs → n ≤ length ys → slice_range (put_mid a k xs ys) a (a + n) ≡ take n ys
-slice_range-put_mid a k n xs ys within fits =
+slice_range_put_mid : (a k n : ℕ) (xs ys : List ℕ) → a ≤ length xs → n ≤ length ys → slice_range (put_mid a k xs ys) a (a + n) ≡ take n ys
+slice_range_put_mid a k n xs ys within fits =
     let same : (a + n) - a ≡ n = omega arith in
     let after = post_of a k xs in
     ap (take ((a + n) - a)) (drop_at (take a xs) (ys ++ after) a (length-take-le a xs within)) ∙ ap (λ m. take m (ys ++ after)) same ∙ take-append-le n ys after fits
@@ -28,7 +28,7 @@ loop-n-preserved g c =
     let at = c.loop-n.n in
     let out = c.loop-n.out in
     let more = c.in_ok-more.more in
-    let part = slice_range-put_mid at (length out - at) more out c.read.new.buf c.loop-n.invariant.inside c.in_ok-more.ensures.bound.0 in
+    let part = slice_range_put_mid at (length out - at) more out c.read.new.buf c.loop-n.invariant.inside c.in_ok-more.ensures.bound.0 in
     let joined = take_split at more out (put_mid at (length out - at) out c.read.new.buf) (take-put_mid_below _ _ _ _ _ (le_refl _) c.loop-n.invariant.inside) in
     record {
       inside = search rules;
