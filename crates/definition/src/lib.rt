@@ -1,6 +1,78 @@
 // The types that the definitions and the code share, and the tags of the value list. The definitions of document 01 are in specs/.
 #![tactic(auto)]
 
+ghost use Rattle.std.specs.Prelude.{◌≡◌};
+ghost use Rattle.definition.specs.Refusals.{refusal_number};
+
+// Why a call is refused. The discriminant is the refusal's number.
+#[derive(Clone, Copy, PartialEq, Eq)]
+pub enum Refusal {
+    // The format has a byte that is no option, or a byte above 127.
+    UnknownOption = 1,
+    // A numeral is 2^64 or more.
+    NumeralTooLarge = 2,
+    // The size of i, I, l, L or s is outside 1 to 16.
+    SizeOutside = 3,
+    // The limit of ! is outside 1 to 16.
+    LimitOutside = 4,
+    // The limit of ! is no power of two.
+    LimitNoPower = 5,
+    // An alignment is above 1 and no power of two.
+    AlignmentNoPower = 6,
+    // X stands at the end, or before a blank, X, <, >, =, !, c, s, z or x.
+    MisplacedX = 7,
+    // c has no numeral.
+    MissingNumeral = 8,
+    // The length, or the list bound's sum, is above 2^63-1.
+    LengthTooLarge = 9,
+    // z or s has no fixed size, so the format cannot be measured.
+    NoFixedSize = 10,
+    // No value is left, or no pair of text lengths.
+    NoValueLeft = 11,
+    // A value has the wrong kind.
+    WrongKind = 12,
+    // An integer is out of its option's range.
+    OutOfRange = 13,
+    // A text for z contains a zero.
+    ZeroInText = 14,
+    // A text is longer than c's size, or than s's length can say.
+    TextDoesNotFit = 15,
+    // The start position lies outside the data.
+    StartOutside = 16,
+    // The data end too early.
+    DataEnd = 17,
+    // An integer does not fit 64 bits.
+    IntegerTooWide = 18,
+    // A text of z has no zero at its end.
+    MissingZero = 19,
+    // A text is longer than 65,535 bytes.
+    TextAbove65535 = 20,
+    // The value list is malformed, a pair of text lengths is not whole, the data or the state's length is above 2^63-1,
+    // or the state's limit is no power of two of 1 to 16.
+    Malformed = 21,
+    // The result is longer than the lent buffer.
+    ResultTooLong = 22,
+    // The lengths of a run's lists don't end at its last byte.
+    DamagedRun = 23,
+    // There is no such date, or its year is before 2000.
+    NoSuchDate = 24,
+    // A day number is above 65,535.
+    DayTooLarge = 25,
+    // The months are outside 1 to 12.
+    MonthsOutside = 26,
+    // A least text length is above its greatest.
+    LeastAboveGreatest = 27,
+}
+
+impl Refusal {
+    // Its number.
+    pub fn number(self) -> u8
+        ensures { result ≡ refusal_number self }
+    {
+        self as u8
+    }
+}
+
 // Which values a number option takes, and what it makes of them.
 #[derive(Clone, Copy)]
 pub enum Kind {

@@ -1,9 +1,9 @@
 -- Each checked item has a size that its option has, by one test over the option table.
 use Prim.Native.Nat.{ℕ, ◌≤◌}
-use mathlib.Core.Path.{◌≡◌, refl, sym, subst}
+use mathlib.Core.Path.{◌≡◌, refl, sym, subst, fun_ext}
 use mathlib.Core.Bool.{Bool, true, false, ◌&&◌, ◌||◌, cond}
 use mathlib.Core.List.{List, [], ◌∷◌, map}
-use lib.Dec.{T, leb, ltb, eqb, eqb→eq, leb→le, lit≤}
+use lib.Dec.{T, T_prop, leb, ltb, eqb, eqb→eq, leb→le, lit≤}
 use lib.Ieee.Bits.{is_true}
 use mir.Facts.{and_yes, yes_and}
 use Rattle.definition.specs.Answers.{Checked, accepted, ◌>>◌, require}
@@ -118,6 +118,9 @@ find_every p b (e ∷ es) none all = go (eqb b e.0) (p e.1) refl all (find_every
 -- a table's rule, and the option table by one test over its entries
 abbrev pub Sizes : Table → Type 0
 Sizes t = (b : ℕ) → T (ok (t b))
+
+pub sizes_prop : (t : Table) → IsProp (Sizes t)
+sizes_prop t f g = fun_ext (λ b. T_prop (ok (t b)) (f b) (g b))
 
 pub options_sizes : Sizes options
 unfolding entry_list options

@@ -3,6 +3,7 @@
 
 ghost use Rattle.std.specs.Prelude.{◌≡◌};
 ghost use Rattle.definition.specs.Options.{options};
+ghost use Rattle.laws.proofs.Ops.{Sizes, sizes_prop};
 ghost use Rattle.options.specs.Packed.{entry_at, table_at, kind_at, size_at};
 
 use definition::Kind;
@@ -49,18 +50,27 @@ pub const ALIGN_END: u8 = 252;
 // f
 pub const SINGLE: u8 = 84;
 
-// The option table, for a caller to lend to the cursor.
-pub fn table() -> [u8; 256]
-    ensures { table_at result ≡ options }
-{
-    OPTIONS
+// A table by which formats are read, for a caller to lend to the cursor. Every number of fixed size has 1 to 16 bytes in it.
+#[derive(Clone, Copy)]
+pub struct OptionTable {
+    pub entries: [u8; 256],
+    ghost sizes: { Sizes (table_at entries) } by { sizes_prop (table_at entries) },
 }
 
-// The entry of a byte.
-pub fn entry(table: &[u8; 256], b: u8) -> u8
-    ensures { entry_at result ≡ table_at table.now b }
+impl OptionTable {
+    // The entry of a byte.
+    pub fn entry(&self, b: u8) -> u8
+        ensures { entry_at result ≡ table_at self.now.entries b }
+    {
+        self.entries[b as usize]
+    }
+}
+
+// The option table.
+pub fn table() -> OptionTable
+    ensures { table_at result.entries ≡ options }
 {
-    table[b as usize]
+    OptionTable { entries: OPTIONS }
 }
 
 // The kind of a number of fixed size.
