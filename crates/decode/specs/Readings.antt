@@ -1,9 +1,11 @@
 -- What a field's bytes give, in the definition's terms.
-use Rattle.std.specs.Prelude.{ℕ, ◌+◌, ◌-◌, ◌≤◌, ◌≡◌, Bool, true, false, cond, List, ltb, length, take, drop}
-use Rattle.definition.specs.Answers.{Checked, refused, accepted}
+use Rattle.std.specs.Prelude.{ℕ, ◌+◌, ◌<◌, ◌≤◌, ◌≡◌, Bool, true, false, List, length, take, drop, Option, Some, None, Result, IfOk}
+use Rattle.definition.specs.Answers.{refused, accepted}
+use Rattle.definition.specs.Refusals.{answer_by}
 use Rattle.definition.specs.Values.{Value, integer, float, text}
 use Rattle.definition.specs.Fields.{up_to_zero, decode}
 use Rattle.definition.specs.declared.Offset.{Offset}
+use Rattle.definition.specs.declared.Refusal.{Refusal}
 use Rattle.definition.specs.declared.Field.{Field}
 use Rattle.definition.specs.declared.Field.TheVariants.{Number, Chars, ZeroEnded, Counted}
 use Rattle.decode.specs.declared.Reading.{Reading}
@@ -40,21 +42,16 @@ is_unaligned (Chars n) = true
 is_unaligned ZeroEnded = true
 is_unaligned (Counted n) = false
 
-abbrev pub decoded_of : List ℕ → Decoded → Checked (Value × ℕ)
-decoded_of d (Decoded.Refused k) = refused k
-decoded_of d (Decoded.Read r n) = accepted (value_of d r, n)
-
-abbrev pub DecodedInside : List ℕ → Offset → Decoded → Type 0
-DecodedInside d at (Decoded.Refused k) = Unit {0}
-DecodedInside d at (Decoded.Read r n) = Inside d r × (at.0 + n ≤ length d)
+-- the definition's value, and the number of bytes
+abbrev pub decoded_in : List ℕ → Decoded → Value × ℕ
+decoded_in d x = (value_of d x.reading, x.size)
 
 -- r is what a field's bytes at an offset of d give, in a byte order
-pub record Decodes (d : List ℕ) (at : Offset) (big : Bool) (f : Field) (r : Decoded) : Type 0 where
-  pub says : decoded_of d r ≡ decode big f (from d at)
-  pub inside : DecodedInside d at r
+pub record Decodes (d : List ℕ) (at : Offset) (big : Bool) (f : Field) (r : Result Decoded Refusal) : Type 0 where
+  pub says : answer_by (decoded_in d) r ≡ decode big f (from d at)
+  pub inside : IfOk r (λ x. Inside d x.reading × (at.0 + x.size ≤ length d))
 
--- r is the offset of the first zero from `at` on, or the length of d
-pub record ZeroFrom (d : List ℕ) (at r : Offset) : Type 0 where
-  pub says : up_to_zero (from d at) ≡ cond (ltb r.0 (length d)) (accepted (take (r.0 - at.0) (from d at))) (refused 19)
-  pub behind : at.0 ≤ r.0
-  pub within : Within d r
+-- r is how many bytes of s stand before its first zero
+abbrev pub BeforeZero : List ℕ → Option ℕ → Type 0
+BeforeZero s (Some n) = (up_to_zero s ≡ accepted (take n s)) × (n < length s)
+BeforeZero s None = up_to_zero s ≡ refused 19

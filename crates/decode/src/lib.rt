@@ -5,10 +5,10 @@ ghost use Rattle.std.specs.Prelude.{Bool, ◌+◌, ◌≤◌, T, length};
 ghost use Rattle.definition.specs.declared.Field.TheVariants as field;
 ghost use Rattle.definition.specs.declared.Kind.TheVariants as kind;
 ghost use Rattle.laws.proofs.Numbers.{valid_size};
-ghost use Rattle.decode.specs.Readings.{Within, Decodes, ZeroFrom};
+ghost use Rattle.decode.specs.Readings.{from, Within, Decodes, BeforeZero};
 
-use definition::{Kind, Offset};
-use load::{Signed, Unsigned, get_signed, get_unsigned, get_word};
+use definition::{Kind, Offset, Refusal};
+use load::{get_signed, get_unsigned, get_word};
 use position::{further, left};
 use single::from_single;
 use words::to_signed;
@@ -21,63 +21,60 @@ pub enum Reading {
     Text(Offset, u64),
 }
 
-// What a field's bytes give and how many they are, or the number of a refusal.
+// A value, and the number of bytes that it was read of.
 #[derive(Clone, Copy)]
-pub enum Decoded {
-    Refused(u8),
-    Read(Reading, u64),
+pub struct Decoded {
+    pub reading: Reading,
+    pub size: u64,
 }
 
 // The length of the longest text that a value list holds.
 const MAX_TEXT: u64 = 65535;
 
 // b h i l j
-fn signed(data: &[u8], at: Offset, big: bool, size: u64) -> Decoded
+fn signed(data: &[u8], at: Offset, big: bool, size: u64) -> Result<Decoded, Refusal>
     requires { at.0 + size ≤ length «data».now }
     ensures { Decodes «data».now at big (field.Number kind.Signed size) result }
 {
-    match get_signed(data, at.0 as usize, size as usize, big) {
-        Signed::Fits(z) => Decoded::Read(Reading::Integer(z), size),
-        Signed::TooWide => Decoded::Refused(18),
-    }
+    let z = get_signed(data, at.0 as usize, size as usize, big).ok_or(Refusal::IntegerTooWide)?;
+    Ok(Decoded { reading: Reading::Integer(z), size })
 }
 
 // B H I L J T
-fn unsigned(data: &[u8], at: Offset, big: bool, size: u64) -> Decoded
+fn unsigned(data: &[u8], at: Offset, big: bool, size: u64) -> Result<Decoded, Refusal>
     requires { at.0 + size ≤ length «data».now }
     ensures { Decodes «data».now at big (field.Number kind.Unsigned size) result }
 {
-    match get_unsigned(data, at.0 as usize, size as usize, big) {
-        Unsigned::Fits(word) => Decoded::Read(Reading::Integer(to_signed(word)), size),
-        Unsigned::TooWide => Decoded::Refused(18),
-    }
+    let word = get_unsigned(data, at.0 as usize, size as usize, big).ok_or(Refusal::IntegerTooWide)?;
+    Ok(Decoded { reading: Reading::Integer(to_signed(word)), size })
 }
 
 // f
-fn single(data: &[u8], at: Offset, big: bool) -> Decoded
+fn single(data: &[u8], at: Offset, big: bool) -> Result<Decoded, Refusal>
     requires { at.0 + 4 ≤ length «data».now }
     ensures { Decodes «data».now at big (field.Number kind.Single 4) result }
 {
     let word = get_word(data, at.0 as usize, 4, big);
-    Decoded::Read(Reading::Float(from_single(word as u32)), 4)
+    Ok(Decoded { reading: Reading::Float(from_single(word as u32)), size: 4 })
 }
 
 // d n
-fn double(data: &[u8], at: Offset, big: bool) -> Decoded
+fn double(data: &[u8], at: Offset, big: bool) -> Result<Decoded, Refusal>
     requires { at.0 + 8 ≤ length «data».now }
     ensures { Decodes «data».now at big (field.Number kind.Double 8) result }
 {
-    Decoded::Read(Reading::Float(get_word(data, at.0 as usize, 8, big)), 8)
+    let word = get_word(data, at.0 as usize, 8, big);
+    Ok(Decoded { reading: Reading::Float(word), size: 8 })
 }
 
 // A number of a kind in so many bytes.
-pub fn number(data: &[u8], at: Offset, big: bool, kind: Kind, size: u64) -> Decoded
+pub fn number(data: &[u8], at: Offset, big: bool, kind: Kind, size: u64) -> Result<Decoded, Refusal>
     requires within { Within «data».now at }
     requires valid_size { T (valid_size kind size) }
     ensures { Decodes «data».now at big (field.Number kind size) result }
 {
     if left(data.len(), at) < size {
-        return Decoded::Refused(17);
+        return Err(Refusal::DataEnd);
     }
     match kind {
         Kind::SmallSigned | Kind::LuaInteger | Kind::Signed => signed(data, at, big, size),
@@ -90,63 +87,48 @@ pub fn number(data: &[u8], at: Offset, big: bool, kind: Kind, size: u64) -> Deco
 }
 
 // c: a text of n bytes.
-pub fn text(data: &[u8], at: Offset, n: u64) -> Decoded
+pub fn text(data: &[u8], at: Offset, n: u64) -> Result<Decoded, Refusal>
     requires { Within «data».now at }
     ensures { (o : Bool) → Decodes «data».now at o (field.Chars n) result }
 {
     if left(data.len(), at) < n {
-        return Decoded::Refused(17);
+        return Err(Refusal::DataEnd);
     }
     if MAX_TEXT < n {
-        return Decoded::Refused(20);
+        return Err(Refusal::TextAbove65535);
     }
-    Decoded::Read(Reading::Text(at, n), n)
+    Ok(Decoded { reading: Reading::Text(at, n), size: n })
 }
 
-// The offset of the first zero from `at` on; without one, the data's length.
-fn zero_from(data: &[u8], at: Offset) -> Offset
+// How many bytes stand before the first zero from `at` on.
+fn before_zero(data: &[u8], at: Offset) -> Option<u64>
     requires { Within «data».now at }
-    ensures { ZeroFrom «data».now at result }
+    ensures { BeforeZero (from «data».now at) result }
 {
-    let mut i = at.0 as usize;
-    while i < data.len() {
-        if data[i] == 0 {
-            return Offset(i as u64);
-        }
-        i += 1;
-    }
-    Offset(i as u64)
+    data[at.0 as usize..].iter().position(|b| *b == 0).map(|n| n as u64)
 }
 
 // z
-pub fn zero_ended(data: &[u8], at: Offset) -> Decoded
+pub fn zero_ended(data: &[u8], at: Offset) -> Result<Decoded, Refusal>
     requires { Within «data».now at }
     ensures { (o : Bool) → Decodes «data».now at o field.ZeroEnded result }
 {
-    let end = zero_from(data, at);
-    if left(data.len(), end) == 0 {
-        return Decoded::Refused(19);
-    }
-    let n = end.0 - at.0;
+    let n = before_zero(data, at).ok_or(Refusal::MissingZero)?;
     if MAX_TEXT < n {
-        return Decoded::Refused(20);
+        return Err(Refusal::TextAbove65535);
     }
-    Decoded::Read(Reading::Text(at, n), n + 1)
+    Ok(Decoded { reading: Reading::Text(at, n), size: n + 1 })
 }
 
 // s: a length of so many bytes, then its text.
-pub fn counted(data: &[u8], at: Offset, big: bool, size: u64) -> Decoded
+pub fn counted(data: &[u8], at: Offset, big: bool, size: u64) -> Result<Decoded, Refusal>
     requires { Within «data».now at }
     ensures { Decodes «data».now at big (field.Counted size) result }
 {
     if left(data.len(), at) < size {
-        return Decoded::Refused(17);
+        return Err(Refusal::DataEnd);
     }
-    let Unsigned::Fits(n) = get_unsigned(data, at.0 as usize, size as usize, big) else {
-        return Decoded::Refused(18);
-    };
-    match text(data, further(at, size), n) {
-        Decoded::Refused(k) => Decoded::Refused(k),
-        Decoded::Read(r, m) => Decoded::Read(r, size + m),
-    }
+    let n = get_unsigned(data, at.0 as usize, size as usize, big).ok_or(Refusal::IntegerTooWide)?;
+    let x = text(data, further(at, size), n)?;
+    Ok(Decoded { reading: x.reading, size: size + x.size })
 }

@@ -2,29 +2,22 @@
 #![tactic(auto)]
 
 ghost use Rattle.std.specs.Prelude.{◌≡◌, ◌+◌, ◌^◌, ◌≤◌, ◌<◌, T};
+ghost use Rattle.definition.specs.Refusals.{answer_of};
 ghost use Rattle.definition.specs.declared.Field.TheVariants as fields;
 ghost use Rattle.definition.specs.declared.Op.TheVariants as ops;
 ghost use Rattle.laws.proofs.Fields.{valid_field};
 ghost use Rattle.laws.proofs.Ops.{valid_op};
 ghost use Rattle.decode.specs.Readings.{is_unaligned};
-ghost use Rattle.fetch.specs.Fetching.{Stands, skipped_from, Skips, Countable, after_of, Fetches};
+ghost use Rattle.fetch.specs.Fetching.{Stands, skipped_from, Skips, after_of, Fetches};
 
-use align::{Amount, at_offset, natural, offset_in, padding, set};
+use align::{at_offset, natural, offset_in, padding, set};
 use decode::{Decoded, Reading, counted, number, text, zero_ended};
-use definition::{Field, Kind, Offset, Op, State};
+use definition::{Field, Kind, Offset, Op, Refusal, State};
 use position::{further, left};
 
-// The offset after some bytes, or the number of a refusal.
-#[derive(Clone, Copy)]
-pub enum Skipped {
-    Refused(u8),
-    To(Offset),
-}
-
-// What an item does, or the number of a refusal.
+// What an item does.
 #[derive(Clone, Copy)]
 pub enum Fetched {
-    Refused(u8),
     // The next state, and no value.
     Set(State),
     // A value, and the offset after it.
@@ -32,91 +25,86 @@ pub enum Fetched {
 }
 
 // Past k bytes, where so many are left from an offset on: 17.
-fn skip(at: Offset, rest: u64, k: u64) -> Skipped
+fn skip(at: Offset, rest: u64, k: u64) -> Result<Offset, Refusal>
     requires { at.0 + rest < 2 ^ 64 }
-    ensures { result ≡ skipped_from at rest k }
+    ensures { answer_of result ≡ skipped_from at rest k }
 {
     if rest < k {
-        return Skipped::Refused(17);
+        return Err(Refusal::DataEnd);
     }
-    Skipped::To(further(at, k))
+    Ok(further(at, k))
 }
 
 // Past an alignment by n, and k bytes: 6, 17. Mostly there is nothing to pass over before them.
-fn read_pad(data: &[u8], s: State, n: u64, k: u64) -> Skipped
+fn read_pad(data: &[u8], s: State, n: u64, k: u64) -> Result<Offset, Refusal>
     requires stands { Stands «data».now s }
     requires positive { 1 ≤ n }
     ensures { Skips «data».now s n k result }
 {
-    match padding(s, n) {
-        Amount::Refused(number) => Skipped::Refused(number),
-        Amount::Bytes(p) => {
-            let at = offset_in(s);
-            let rest = left(data.len(), at);
-            if p == 0 {
-                return skip(at, rest, k);
-            }
-            if rest < p {
-                return Skipped::Refused(17);
-            }
-            skip(further(at, p), rest - p, k)
-        }
+    let p = padding(s, n)?;
+    let at = offset_in(s);
+    let rest = left(data.len(), at);
+    if p == 0 {
+        return skip(at, rest, k);
     }
+    if rest < p {
+        return Err(Refusal::DataEnd);
+    }
+    skip(further(at, p), rest - p, k)
 }
 
 // What was decoded at an offset, and the offset after it.
 fn after(at: Offset, x: Decoded) -> Fetched
-    requires { Countable at x }
+    requires { at.0 + x.size < 2 ^ 64 }
     ensures { result ≡ after_of at x }
 {
-    match x {
-        Decoded::Refused(k) => Fetched::Refused(k),
-        Decoded::Read(r, n) => Fetched::Read(r, further(at, n)),
-    }
+    Fetched::Read(x.reading, further(at, x.size))
 }
 
 // A number: its alignment, then its value.
-fn read_number(data: &[u8], s: State, kind: Kind, size: u64) -> Fetched
+fn read_number(data: &[u8], s: State, kind: Kind, size: u64) -> Result<Fetched, Refusal>
     requires stands { Stands «data».now s }
     requires valid_field { T (valid_field (fields.Number kind size)) }
     ensures { Fetches «data».now s (ops.Put (fields.Number kind size)) result }
 {
-    match read_pad(data, s, natural(Field::Number(kind, size)), 0) {
-        Skipped::Refused(k) => Fetched::Refused(k),
-        Skipped::To(t) => after(t, number(data, t, s.big, kind, size)),
-    }
+    let at = read_pad(data, s, natural(Field::Number(kind, size)), 0)?;
+    let x = number(data, at, s.big, kind, size)?;
+    Ok(after(at, x))
 }
 
 // s: the alignment of its length, then its value.
-fn read_counted(data: &[u8], s: State, size: u64) -> Fetched
+fn read_counted(data: &[u8], s: State, size: u64) -> Result<Fetched, Refusal>
     requires stands { Stands «data».now s }
     requires valid_field { T (valid_field (fields.Counted size)) }
     ensures { Fetches «data».now s (ops.Put (fields.Counted size)) result }
 {
-    match read_pad(data, s, natural(Field::Counted(size)), 0) {
-        Skipped::Refused(k) => Fetched::Refused(k),
-        Skipped::To(t) => after(t, counted(data, t, s.big, size)),
-    }
+    let at = read_pad(data, s, natural(Field::Counted(size)), 0)?;
+    let x = counted(data, at, s.big, size)?;
+    Ok(after(at, x))
 }
 
 // c or z: its alignment, then its value.
-fn read_text(data: &[u8], s: State, f: Field) -> Fetched
+fn read_text(data: &[u8], s: State, f: Field) -> Result<Fetched, Refusal>
     requires stands { Stands «data».now s }
     requires unaligned { T (is_unaligned f) }
     ensures { Fetches «data».now s (ops.Put f) result }
 {
-    match read_pad(data, s, natural(f), 0) {
-        Skipped::Refused(k) => Fetched::Refused(k),
-        Skipped::To(t) => match f {
-            Field::Chars(n) => after(t, text(data, t, n)),
-            _ => after(t, zero_ended(data, t)),
-        },
+    let at = read_pad(data, s, natural(f), 0)?;
+    match f {
+        Field::Chars(n) => {
+            let x = text(data, at, n)?;
+            Ok(after(at, x))
+        }
+        _ => {
+            let x = zero_ended(data, at)?;
+            Ok(after(at, x))
+        }
     }
 }
 
 // A field. What aligns by a size of its own stands apart from c and z, of which the compiler then knows that nothing is passed
 // over: one function for all fields takes a tenth more instructions.
-fn read_field(data: &[u8], s: State, f: Field) -> Fetched
+fn read_field(data: &[u8], s: State, f: Field) -> Result<Fetched, Refusal>
     requires stands { Stands «data».now s }
     requires valid_field { T (valid_field f) }
     ensures { Fetches «data».now s (ops.Put f) result }
@@ -129,18 +117,18 @@ fn read_field(data: &[u8], s: State, f: Field) -> Fetched
 }
 
 // What an item does at a state.
-pub fn read_op(data: &[u8], s: State, op: Op) -> Fetched
+pub fn read_op(data: &[u8], s: State, op: Op) -> Result<Fetched, Refusal>
     requires stands { Stands «data».now s }
     requires valid_op { T (valid_op op) }
     ensures { Fetches «data».now s op result }
 {
     match op {
         Op::Put(f) => read_field(data, s, f),
-        Op::Blank => Fetched::Set(s),
-        Op::Set(x) => Fetched::Set(set(s, x)),
-        Op::Pad(n, k) => match read_pad(data, s, n, k) {
-            Skipped::Refused(number) => Fetched::Refused(number),
-            Skipped::To(t) => Fetched::Set(at_offset(s, t)),
-        },
+        Op::Blank => Ok(Fetched::Set(s)),
+        Op::Set(x) => Ok(Fetched::Set(set(s, x))),
+        Op::Pad(n, k) => {
+            let end = read_pad(data, s, n, k)?;
+            Ok(Fetched::Set(at_offset(s, end)))
+        }
     }
 }

@@ -1,7 +1,7 @@
 // Writes the fields of a value list: a tag, a length in two bytes, big-endian, and content.
 #![tactic(auto)]
 
-ghost use Rattle.std.specs.Prelude.{◌≡◌, [], ◌∷◌, ◌++◌, ◌+◌, ◌≤◌, length, take, drop};
+ghost use Rattle.std.specs.Prelude.{◌≡◌, [], ◌∷◌, ◌++◌, ◌+◌, ◌≤◌, length};
 ghost use Rattle.std.proofs.Math.Seq.{paste};
 ghost use Rattle.definition.specs.Values as definition;
 ghost use Rattle.definition.specs.Lists.{big, list_of};
@@ -52,12 +52,11 @@ pub fn put_float(out: &mut [u8], at: usize, bits: u64)
     put_eight(out, at, TAG_FLOAT, bits);
 }
 
-// The field of a text: the n bytes of source from start.
-pub fn put_text(out: &mut [u8], at: usize, source: &[u8], start: usize, n: usize)
-    requires room { at + 3 + n ≤ length out.old }
-    requires inside { start + n ≤ length source.now }
-    ensures { out.new ≡ paste out.old at (list_of (definition.text (take n (drop start source.now)) ∷ [])) (3 + n) }
+// The field of a text.
+pub fn put_text(out: &mut [u8], at: usize, text: &[u8])
+    requires { at + 3 + length text.now ≤ length out.old }
+    ensures { out.new ≡ paste out.old at (list_of (definition.text text.now ∷ [])) (3 + length text.now) }
 {
-    put_head(out, at, TAG_TEXT, n as u64);
-    put_copy(out, at + HEAD, source, start, n);
+    put_head(out, at, TAG_TEXT, text.len() as u64);
+    put_copy(out, at + HEAD, text);
 }

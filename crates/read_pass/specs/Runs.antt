@@ -1,6 +1,7 @@
 -- What the two passes over a format say, in the definition's terms.
-use Rattle.std.specs.Prelude.{ℕ, ◌+◌, ◌≤◌, ◌≡◌, List, ◌++◌, length, drop}
+use Rattle.std.specs.Prelude.{ℕ, ◌+◌, ◌≤◌, ◌≡◌, List, ◌++◌, length, drop, Result, Ok, Err}
 use Rattle.definition.specs.Answers.{Checked, refused, accepted}
+use Rattle.definition.specs.Refusals.{refusal_number}
 use Rattle.definition.specs.Options.{Table}
 use Rattle.definition.specs.Ops.{ops}
 use Rattle.definition.specs.Values.{Value}
@@ -10,13 +11,13 @@ use Rattle.definition.specs.Reading.{offset_in}
 use Rattle.laws.proofs.Traces.{reading_values}
 use Rattle.definition.specs.declared.State.{State}
 use Rattle.definition.specs.declared.Offset.{Offset}
+use Rattle.definition.specs.declared.Refusal.{Refusal}
 use Rattle.align.specs.Amounts.{SameTo63}
 use Rattle.decode.specs.Readings.{Within}
 use Rattle.fetch.specs.Fetching.{place_in}
 use Rattle.decode.specs.declared.Reading.{Reading}
 use Rattle.decode.specs.declared.Reading.TheVariants.{Integer, Float, Text}
 use Rattle.read_pass.specs.declared.Total.{Total}
-use Rattle.read_pass.specs.declared.Total.TheVariants.{Refused, Of}
 
 -- what reading the format f, by the table t, in the data d from a state gives
 abbrev pub read_at : Table → List ℕ → List ℕ → State → Checked (Place ℕ × List Value)
@@ -47,11 +48,11 @@ pub record Reads (d : List ℕ) (w : Checked (Place ℕ × List Value)) (n : ℕ
   pub ends : o ≡ offset_in next.state
   pub inside : Within d o
 
-abbrev pub Totals : List ℕ → Checked (Place ℕ × List Value) → Total → Type 0
-Totals d w (Refused k) = w ≡ refused k
-Totals d w (Of n o) = Reads d w n o
+abbrev pub Totals : List ℕ → Checked (Place ℕ × List Value) → Result Total Refusal → Type 0
+Totals d w (Ok t) = Reads d w t.length t.next
+Totals d w (Err r) = w ≡ refused (refusal_number r)
 
-abbrev pub Checks : Table → List ℕ → List ℕ → State → Total → Type 0
+abbrev pub Checks : Table → List ℕ → List ℕ → State → Result Total Refusal → Type 0
 Checks t f d s r = Totals d (read_at t f d s) r
 
 -- ---- the second pass

@@ -4,7 +4,6 @@
 ghost use Rattle.std.specs.Prelude.{◌≡◌, true, cond, [], ◌∷◌, ◌+◌, ◌≤◌, length};
 ghost use Rattle.std.proofs.Math.Seq.{paste};
 ghost use Rattle.definition.specs.Lists.{list_of};
-ghost use Rattle.laws.proofs.Ops.{Sizes};
 ghost use Rattle.decode.specs.Readings.{value_of, Inside};
 ghost use Rattle.fetch.specs.Fetching.{Stands};
 ghost use Rattle.options.specs.Packed.{table_at};
@@ -12,17 +11,18 @@ ghost use Rattle.read_pass.specs.Runs.{size_of, Short, Checks, Fits, list_after}
 
 use align::{at_offset, offset_in, parts, sum};
 use decode::Reading;
-use definition::{Offset, State};
+use definition::{Offset, Refusal, State};
 use fetch::{Fetched, read_op};
 use fields::{put_float, put_integer, put_text};
-use format::cursor::{Cursor, Next};
+use format::cursor::Cursor;
+use options::OptionTable;
 
-// The number of a refusal, or the length of the value list and the offset after the last byte read. A length above 2^63-1
-// says only that the list's is above it too.
+// The length of the value list and the offset after the last byte read. A length above 2^63-1 says only that the list's is
+// above it too.
 #[derive(Clone, Copy)]
-pub enum Total {
-    Refused(u8),
-    Of(u64, Offset),
+pub struct Total {
+    pub length: u64,
+    pub next: Offset,
 }
 
 // The length of the field of a value.
@@ -46,47 +46,45 @@ fn put_reading(list: &mut [u8], at: usize, data: &[u8], r: Reading)
     match r {
         Reading::Integer(z) => put_integer(list, at, z),
         Reading::Float(bits) => put_float(list, at, bits),
-        Reading::Text(start, n) => put_text(list, at, data, start.0 as usize, n as usize),
+        Reading::Text(start, n) => {
+            let from = start.0 as usize;
+            put_text(list, at, &data[from..from + n as usize])
+        }
     }
 }
 
 // Reads a format from a state. With `put`, reading is accepted, and the list has room for the values.
 pub fn pass(
-    table: &[u8; 256],
+    table: &OptionTable,
     format: &[u8],
     data: &[u8],
     start: State,
     list: &mut [u8],
     put: bool,
-) -> Total
-    requires sizes { Sizes (table_at table.now) }
+) -> Result<Total, Refusal>
     requires stands { Stands «data».now start }
-    requires room { (put ≡ true → Fits (table_at table.now) format.now «data».now start list.old) }
-    ensures total { Checks (table_at table.now) format.now «data».now start result }
-    ensures list { list.new ≡ cond put (list_after (table_at table.now) format.now «data».now start list.old) list.old }
+    requires room { (put ≡ true → Fits (table_at table.now.entries) format.now «data».now start list.old) }
+    ensures total { Checks (table_at table.now.entries) format.now «data».now start result }
+    ensures list { list.new ≡ cond put (list_after (table_at table.now.entries) format.now «data».now start list.old) list.old }
 {
     let mut c = Cursor::new();
     let mut s = start;
     let mut total: u64 = 0;
-    loop {
-        match c.next(table, format) {
-            Next::End => return Total::Of(total, offset_in(s)),
-            Next::Refused(k) => return Total::Refused(k),
-            Next::Item(i, d) => match read_op(data, s, i.op()) {
-                Fetched::Refused(k) => return Total::Refused(k),
-                Fetched::Set(t) => {
-                    s = parts(t);
-                    c = d;
+    while let Some((item, next)) = c.next(table, format)? {
+        match read_op(data, s, item.op())? {
+            Fetched::Set(t) => {
+                s = parts(t);
+                c = next;
+            }
+            Fetched::Read(r, end) => {
+                if put {
+                    put_reading(list, total as usize, data, r);
                 }
-                Fetched::Read(r, next) => {
-                    if put {
-                        put_reading(list, total as usize, data, r);
-                    }
-                    total = sum(total, size_of(r));
-                    s = at_offset(s, next);
-                    c = d;
-                }
-            },
+                total = sum(total, size_of(r));
+                s = at_offset(s, end);
+                c = next;
+            }
         }
     }
+    Ok(Total { length: total, next: offset_in(s) })
 }
