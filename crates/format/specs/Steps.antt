@@ -1,5 +1,6 @@
 -- The items of a format one after the other, as the cursor reads them.
-use Rattle.std.specs.Prelude.{ℕ, ◌+◌, List, [], ◌∷◌, length}
+use Rattle.std.specs.Prelude.{ℕ, ◌+◌, List, [], ◌∷◌, length, Some, None}
+use Rattle.std.specs.Prelude as Answer
 use Rattle.std.proofs.Math.Option.{Option, none, some}
 use Rattle.definition.specs.Answers.{Checked, refused, accepted, ◌>>=◌}
 use Rattle.definition.specs.Options.{Table}
@@ -8,7 +9,8 @@ use Rattle.definition.specs.Ops.{op_of}
 use Rattle.definition.specs.declared.Op.{Op}
 use Rattle.options.specs.Packed.{entry_at}
 use Rattle.operand.specs.Operands.{op_for}
-use Rattle.format.specs.declared.cursor.Next.{Next}
+use Rattle.format.specs.declared.cursor.Cursor.{Cursor}
+use Rattle.format.specs.declared.cursor.Item.{Item}
 
 -- what an item does, by the packed entry of its byte and its operand
 abbrev pub op_at : ℕ → ℕ → Op
@@ -21,8 +23,7 @@ next_at t at (b ∷ s) = do
   o ← op_of t (item b (taken t b s))
   accepted (some (o, at + 1 + length (taken t b s)))
 
--- what the cursor's answer says
-abbrev pub next_of : Next → Checked (Option (Op × ℕ))
-next_of Next.End = accepted none
-next_of (Next.Refused k) = refused k
-next_of (Next.Item i c) = accepted (some (op_at i.entry i.operand, c.at))
+-- what the cursor's item does, and the place of the cursor after it
+abbrev pub next_of : Answer.Option (Item × Cursor) → Option (Op × ℕ)
+next_of None = none
+next_of (Some (i, c)) = some (op_at i.entry i.operand, c.at)

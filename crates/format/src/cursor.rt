@@ -1,14 +1,14 @@
 // Reads the items of a format, one after the other.
 ghost use Rattle.std.specs.Prelude.{◌≡◌, drop};
-ghost use Rattle.laws.proofs.Ops.{Sizes};
+ghost use Rattle.definition.specs.Refusals.{answer_by};
 ghost use Rattle.options.specs.Packed.{table_at, plain_at};
 ghost use Rattle.operand.specs.Operands.{op_for};
 ghost use Rattle.format.specs.Steps.{op_at, next_of, next_at};
 
-use definition::{Field, Kind, Op, Setting};
-use operand::{Operand, operand_at};
+use definition::{Field, Kind, Op, Refusal, Setting};
+use operand::operand_at;
 use options::{
-    CHARS_END, COUNTED_END, FIXED_END, LIMIT_END, PLAIN_END, SIGNED_END, UNSIGNED_END, entry,
+    CHARS_END, COUNTED_END, FIXED_END, LIMIT_END, OptionTable, PLAIN_END, SIGNED_END, UNSIGNED_END,
     kind_of,
 };
 
@@ -23,14 +23,6 @@ pub struct Cursor {
 pub struct Item {
     pub entry: u8,
     pub operand: u64,
-}
-
-// The end of the format, the number of a refusal, or an item and the cursor after it.
-#[derive(Clone, Copy)]
-pub enum Next {
-    End,
-    Refused(u8),
-    Item(Item, Cursor),
 }
 
 // What an option does that has no operand.
@@ -86,26 +78,21 @@ impl Cursor {
         Cursor { at: 0 }
     }
 
-    // The item here, and the cursor after it.
-    pub fn next(self, table: &[u8; 256], format: &[u8]) -> Next
-        requires { Sizes (table_at table.now) }
-        ensures { next_of result ≡ next_at (table_at table.now) self.at (drop self.at format.now) }
+    // The item here and the cursor after it; none at the end of the format.
+    pub fn next(self, table: &OptionTable, format: &[u8]) -> Result<Option<(Item, Cursor)>, Refusal>
+        ensures { answer_by next_of result ≡ next_at (table_at table.now.entries) self.at (drop self.at format.now) }
     {
         let at = self.at;
         if format.len() <= at {
-            return Next::End;
+            return Ok(None);
         }
-        let e = entry(table, format[at]);
+        let entry = table.entry(format[at]);
         let i = at + 1;
-        match operand_at(table, format, i, e) {
-            Operand::Refused(k) => Next::Refused(k),
-            Operand::Of(n, k) => Next::Item(
-                Item {
-                    entry: e,
-                    operand: n,
-                },
-                Cursor { at: i + k },
-            ),
-        }
+        let x = operand_at(table, format, i, entry)?;
+        let item = Item {
+            entry,
+            operand: x.value,
+        };
+        Ok(Some((item, Cursor { at: i + x.taken })))
     }
 }

@@ -1,9 +1,11 @@
 -- The operand of an option: its size, limit, length or alignment. What an item does is its option's class with its operand.
-use Rattle.std.specs.Prelude.{ℕ, ◌+◌, ◌^◌, ◌≤◌, ◌<◌, cond, List, ltb, leb, length, drop}
+use Rattle.std.specs.Prelude.{ℕ, ◌+◌, ◌≤◌, ◌<◌, cond, List, ltb, leb, length, drop, Result, Ok, Err}
 use Rattle.definition.specs.Answers.{Checked, refused, accepted, ◌>>=◌}
 use Rattle.definition.specs.Items.{digits, taken_by, next_byte, numeral_of, Numeral, Missing, TooLarge, Value}
 use Rattle.definition.specs.Ops.{size_or, limit_or, needed, natural_of}
 use Rattle.definition.specs.Options.{Table, Class, NumeralRule, Nothing, Digits, DigitsBehindX, NextByte, Entry}
+use Rattle.definition.specs.Refusals.{refusal_number}
+use Rattle.definition.specs.declared.Refusal.{Refusal}
 use Rattle.definition.specs.declared.Op.{Op}
 use Rattle.definition.specs.declared.Field.TheVariants as Field
 use Rattle.definition.specs.declared.Setting.TheVariants as Setting
@@ -73,23 +75,18 @@ abbrev pub one_more : Checked (ℕ × ℕ) → Checked (ℕ × ℕ)
 one_more c = c >>= λ r. accepted (r.0, r.1 + 1)
 
 -- ---- what the answers say
-abbrev pub operand_of : Operand → Checked (ℕ × ℕ)
-operand_of (Operand.Refused k) = refused k
-operand_of (Operand.Of n i) = accepted (n, i)
-
--- one byte more can be counted
-abbrev pub RoomFor1 : Operand → Type 0
-RoomFor1 (Operand.Refused k) = Unit {0}
-RoomFor1 (Operand.Of n i) = i + 1 < 2 ^ 64
+-- the operand, and how many bytes are taken
+abbrev pub pair_of : Operand → ℕ × ℕ
+pair_of x = (x.value, x.taken)
 
 -- the answer on s, which follows X
-abbrev pub behind_of : Table → Behind → List ℕ → Checked (ℕ × ℕ)
-behind_of t (Behind.Refused k) s = refused k
-behind_of t (Behind.By n i) s = accepted (n, i)
-behind_of t (Behind.Numeral e) s = one_more (operand_at t (entry_at e) (drop 1 s))
+abbrev pub behind_of : Table → Result Behind Refusal → List ℕ → Checked (ℕ × ℕ)
+behind_of t (Err r) s = refused (refusal_number r)
+behind_of t (Ok (Behind.By x)) s = accepted (pair_of x)
+behind_of t (Ok (Behind.Numeral e)) s = one_more (operand_at t (entry_at e) (drop 1 s))
 
 -- an option that stands behind X with a numeral of its own
-abbrev pub NumeralBehind : Behind → List ℕ → Type 0
-NumeralBehind (Behind.Refused k) s = Unit {0}
-NumeralBehind (Behind.By n i) s = Unit {0}
-NumeralBehind (Behind.Numeral e) s = (192 ≤ e) × (0 < length s)
+abbrev pub NumeralBehind : Result Behind Refusal → List ℕ → Type 0
+NumeralBehind (Err r) s = Unit {0}
+NumeralBehind (Ok (Behind.By x)) s = Unit {0}
+NumeralBehind (Ok (Behind.Numeral e)) s = (192 ≤ e) × (0 < length s)
