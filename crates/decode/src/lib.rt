@@ -37,7 +37,10 @@ fn signed(data: &[u8], at: Offset, big: bool, size: u64) -> Result<Decoded, Refu
     ensures { Decodes «data».now at big (field.Number kind.Signed size) result }
 {
     let z = get_signed(data, at.0 as usize, size as usize, big).ok_or(Refusal::IntegerTooWide)?;
-    Ok(Decoded { reading: Reading::Integer(z), size })
+    Ok(Decoded {
+        reading: Reading::Integer(z),
+        size,
+    })
 }
 
 // B H I L J T
@@ -45,8 +48,13 @@ fn unsigned(data: &[u8], at: Offset, big: bool, size: u64) -> Result<Decoded, Re
     requires { at.0 + size ≤ length «data».now }
     ensures { Decodes «data».now at big (field.Number kind.Unsigned size) result }
 {
-    let word = get_unsigned(data, at.0 as usize, size as usize, big).ok_or(Refusal::IntegerTooWide)?;
-    Ok(Decoded { reading: Reading::Integer(to_signed(word)), size })
+    let word = get_unsigned(data, at.0 as usize, size as usize, big).ok_or(
+        Refusal::IntegerTooWide,
+    )?;
+    Ok(Decoded {
+        reading: Reading::Integer(to_signed(word)),
+        size,
+    })
 }
 
 // f
@@ -55,7 +63,10 @@ fn single(data: &[u8], at: Offset, big: bool) -> Result<Decoded, Refusal>
     ensures { Decodes «data».now at big (field.Number kind.Single 4) result }
 {
     let word = get_word(data, at.0 as usize, 4, big);
-    Ok(Decoded { reading: Reading::Float(from_single(word as u32)), size: 4 })
+    Ok(Decoded {
+        reading: Reading::Float(from_single(word as u32)),
+        size: 4,
+    })
 }
 
 // d n
@@ -64,7 +75,10 @@ fn double(data: &[u8], at: Offset, big: bool) -> Result<Decoded, Refusal>
     ensures { Decodes «data».now at big (field.Number kind.Double 8) result }
 {
     let word = get_word(data, at.0 as usize, 8, big);
-    Ok(Decoded { reading: Reading::Float(word), size: 8 })
+    Ok(Decoded {
+        reading: Reading::Float(word),
+        size: 8,
+    })
 }
 
 // A number of a kind in so many bytes.
@@ -97,7 +111,10 @@ pub fn text(data: &[u8], at: Offset, n: u64) -> Result<Decoded, Refusal>
     if MAX_TEXT < n {
         return Err(Refusal::TextAbove65535);
     }
-    Ok(Decoded { reading: Reading::Text(at, n), size: n })
+    Ok(Decoded {
+        reading: Reading::Text(at, n),
+        size: n,
+    })
 }
 
 // How many bytes stand before the first zero from `at` on.
@@ -105,7 +122,10 @@ fn before_zero(data: &[u8], at: Offset) -> Option<u64>
     requires { Within «data».now at }
     ensures { BeforeZero (from «data».now at) result }
 {
-    data[at.0 as usize..].iter().position(|b| *b == 0).map(|n| n as u64)
+    data[at.0 as usize..]
+        .iter()
+        .position(|b| *b == 0)
+        .map(|n| n as u64)
 }
 
 // z
@@ -117,7 +137,10 @@ pub fn zero_ended(data: &[u8], at: Offset) -> Result<Decoded, Refusal>
     if MAX_TEXT < n {
         return Err(Refusal::TextAbove65535);
     }
-    Ok(Decoded { reading: Reading::Text(at, n), size: n + 1 })
+    Ok(Decoded {
+        reading: Reading::Text(at, n),
+        size: n + 1,
+    })
 }
 
 // s: a length of so many bytes, then its text.
@@ -130,5 +153,8 @@ pub fn counted(data: &[u8], at: Offset, big: bool, size: u64) -> Result<Decoded,
     }
     let n = get_unsigned(data, at.0 as usize, size as usize, big).ok_or(Refusal::IntegerTooWide)?;
     let x = text(data, further(at, size), n)?;
-    Ok(Decoded { reading: x.reading, size: size + x.size })
+    Ok(Decoded {
+        reading: x.reading,
+        size: size + x.size,
+    })
 }

@@ -12,7 +12,12 @@ use position::{offset_of, position_of};
 use read_pass::pass;
 
 // The values of a format in data from a start position, as a value list at the front of the lent buffer.
-pub fn string_unpack(format: &[u8], data: &[u8], start: i64, list: &mut [u8]) -> Result<Unpacked, Refusal>
+pub fn string_unpack(
+    format: &[u8],
+    data: &[u8],
+    start: i64,
+    list: &mut [u8],
+) -> Result<Unpacked, Refusal>
     ensures { call (answer_of result) list.new ≡ string_unpack format.now «data».now start list.old }
 {
     let offset = offset_of(start, data.len())?;
@@ -23,5 +28,8 @@ pub fn string_unpack(format: &[u8], data: &[u8], start: i64, list: &mut [u8]) ->
         return Err(Refusal::ResultTooLong);
     }
     pass(&options, format, data, s, list, true)?;
-    Ok(Unpacked { length: total.length, next: position_of(total.next) })
+    Ok(Unpacked {
+        length: total.length,
+        next: position_of(total.next),
+    })
 }

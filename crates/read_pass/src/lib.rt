@@ -86,5 +86,8 @@ pub fn pass(
             }
         }
     }
-    Ok(Total { length: total, next: offset_in(s) })
+    Ok(Total {
+        length: total,
+        next: offset_in(s),
+    })
 }
