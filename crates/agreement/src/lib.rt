@@ -4,20 +4,21 @@
 ghost use Rattle.std.specs.Prelude.{◌≡◌, true};
 ghost use Rattle.laws.specs.Claims.{Readable};
 
-use measure::{Measured, string_packsize};
-use read::{Unpacking, string_unpack};
-use write::{Packed, string_pack};
+use definition::Refusal;
+use measure::string_packsize;
+use read::string_unpack;
+use write::string_pack;
 
 // Writes a record, and says whether it is as long as its format measures, or measuring gives 10: it is so, always.
 pub fn size_agrees(format: &[u8], list: &[u8], out: &mut [u8]) -> bool
     ensures { result ≡ true }
 {
-    let Packed::Length(written) = string_pack(format, list, out) else {
+    let Ok(written) = string_pack(format, list, out) else {
         return true;
     };
     match string_packsize(format) {
-        Measured::Refused(k) => k == 10,
-        Measured::Size(size) => size == written,
+        Err(refusal) => refusal == Refusal::NoFixedSize,
+        Ok(size) => size == written,
     }
 }
 
@@ -26,11 +27,11 @@ pub fn size_agrees(format: &[u8], list: &[u8], out: &mut [u8]) -> bool
 pub fn reads_back(format: &[u8], list: &[u8], out: &mut [u8], kept: &mut [u8]) -> bool
     ensures { Readable format.now list.now → result ≡ true }
 {
-    let Packed::Length(written) = string_pack(format, list, out) else {
+    let Ok(written) = string_pack(format, list, out) else {
         return true;
     };
     match string_unpack(format, out, 1, kept) {
-        Unpacking::Refused(k) => k == 22,
-        Unpacking::Unpacked(u) => u.next.0 == written + 1,
+        Err(refusal) => refusal == Refusal::ResultTooLong,
+        Ok(read) => read.next.0 == written + 1,
     }
 }

@@ -5,25 +5,12 @@
 ghost use Rattle.std.specs.Prelude.{◌≡◌, ◌≤◌, ◌<◌, true, cond};
 ghost use Rattle.calendar.specs.Calendar.{date, is_leap, month_length, days_before_month, days_before, is_date, date_after, months_on, end_before, in_two_bytes, day_number, date_of, last_day};
 ghost use Rattle.calendar.specs.Claims.{number_of};
-ghost use Rattle.dates.specs.Answers.{day_of, dated_of};
+ghost use Rattle.definition.specs.Refusals.{answer_of};
 ghost use Rattle.dates.specs.Fourth.{fourth, days_before_fourth, counted, widened, InYear, Later};
 
 use calendar::Date;
+use definition::Refusal;
 use words::extent;
-
-// A day number, or the number of a refusal.
-#[derive(Clone, Copy)]
-pub enum Day {
-    Refused(u8),
-    Number(u64),
-}
-
-// A date, or the number of a refusal.
-#[derive(Clone, Copy)]
-pub enum Dated {
-    Refused(u8),
-    Date(Date),
-}
 
 // The last day that two bytes hold, 6 June 2179.
 const MAX_DAY: u64 = 65535;
@@ -55,22 +42,22 @@ fn month_length(year: u64, month: u64) -> u64
 }
 
 // Whether there is such a date. Every month has 28 days, so only a later day asks for the month's length.
-fn is_date(year: u64, month: u64, day: u64) -> bool
-    ensures { result ≡ is_date (date year month day) }
+fn is_date(d: Date) -> bool
+    ensures { result ≡ is_date d }
 {
-    if day == 0 {
+    if d.day == 0 {
         return false;
     }
-    if month == 0 {
+    if d.month == 0 {
         return false;
     }
-    if 12 < month {
+    if 12 < d.month {
         return false;
     }
-    if day <= 28 {
+    if d.day <= 28 {
         return true;
     }
-    day <= month_length(year, month)
+    d.day <= month_length(d.year, d.month)
 }
 
 // The days before the year 2000 + y.
@@ -94,12 +81,12 @@ fn days_before_month(y: u64, month: u64) -> u64
 }
 
 // The day number of a date.
-fn number(year: u64, month: u64, day: u64) -> u64
-    requires { (is_date (date year month day) ≡ true) × (2000 ≤ year) × (year ≤ 2180) }
-    ensures { result ≡ days_before (date year month day) }
+fn number(d: Date) -> u64
+    requires { (is_date d ≡ true) × (2000 ≤ d.year) × (d.year ≤ 2180) }
+    ensures { result ≡ days_before d }
 {
-    let y = year - 2000;
-    let n = days_before_year(y) + days_before_month(y, month) + (day - 1);
+    let y = d.year - 2000;
+    let n = days_before_year(y) + days_before_month(y, d.month) + (d.day - 1);
     if n < NO_DAY { n } else { n - 1 }
 }
 
@@ -156,16 +143,12 @@ fn months_on(d: Date, months: u64) -> Date
 {
     let month = d.month + months;
     if month <= 12 {
-        return Date {
-            year: d.year,
-            month,
-            day: d.day,
-        };
+        return Date { month, ..d };
     }
     Date {
         year: d.year + 1,
         month: month - 12,
-        day: d.day,
+        ..d
     }
 }
 
@@ -174,7 +157,7 @@ fn end_before(d: Date) -> u64
     requires { Later d }
     ensures { result ≡ end_before d }
 {
-    let first = number(d.year, d.month, 1);
+    let first = number(Date { day: 1, ..d });
     if d.day <= 28 {
         return first + d.day - 2;
     }
@@ -187,75 +170,77 @@ fn end_before(d: Date) -> u64
 }
 
 // A day number that two bytes hold, else 25.
-fn in_two_bytes(n: u64) -> Day
-    ensures { day_of result ≡ in_two_bytes n }
+fn in_two_bytes(n: u64) -> Result<u64, Refusal>
+    ensures { answer_of result ≡ in_two_bytes n }
 {
     if n <= MAX_DAY {
-        Day::Number(n)
+        Ok(n)
     } else {
-        Day::Refused(25)
+        Err(Refusal::DayTooLarge)
     }
 }
 
 // The day number of a date from 2000 on: 24 if there is no such date, 25 if two bytes don't hold it.
 #[tactic(auto, using(crate::proofs::Passing::late_year))]
-fn number_of(year: u64, month: u64, day: u64) -> Day
-    requires { 2000 ≤ year }
-    ensures { day_of result ≡ number_of (date year month day) }
+fn number_of(d: Date) -> Result<u64, Refusal>
+    requires { 2000 ≤ d.year }
+    ensures { answer_of result ≡ number_of d }
 {
-    if !is_date(year, month, day) {
-        return Day::Refused(24);
+    if !is_date(d) {
+        return Err(Refusal::NoSuchDate);
     }
-    if 2179 < year {
-        return Day::Refused(25);
+    if 2179 < d.year {
+        return Err(Refusal::DayTooLarge);
     }
-    in_two_bytes(number(year, month, day))
+    in_two_bytes(number(d))
 }
 
 // The day number of a date: 24 if there is no such date or its year is before 2000, 25 if two bytes don't hold it.
 #[tactic(auto, using(crate::proofs::Signs::year_below, crate::proofs::Signs::month_below, crate::proofs::Signs::day_below))]
-pub fn day_number(year: i64, month: i64, day: i64) -> Day
-    ensures { day_of result ≡ day_number year month day }
+pub fn day_number(year: i64, month: i64, day: i64) -> Result<u64, Refusal>
+    ensures { answer_of result ≡ day_number year month day }
 {
     if year < 2000 {
-        return Day::Refused(24);
+        return Err(Refusal::NoSuchDate);
     }
     if month < 1 {
-        return Day::Refused(24);
+        return Err(Refusal::NoSuchDate);
     }
     if day < 1 {
-        return Day::Refused(24);
+        return Err(Refusal::NoSuchDate);
     }
-    number_of(extent(year), extent(month), extent(day))
+    number_of(Date {
+        year: extent(year),
+        month: extent(month),
+        day: extent(day),
+    })
 }
 
 // The date of a day number: 24 if it is below 0, 25 if two bytes don't hold it.
-pub fn date_of(day: i64) -> Dated
-    ensures { dated_of result ≡ date_of day }
+pub fn date_of(day: i64) -> Result<Date, Refusal>
+    ensures { answer_of result ≡ date_of day }
 {
     if day < 0 {
-        return Dated::Refused(24);
+        return Err(Refusal::NoSuchDate);
     }
     let n = extent(day);
     if MAX_DAY < n {
-        return Dated::Refused(25);
+        return Err(Refusal::DayTooLarge);
     }
-    Dated::Date(date_after(n))
+    Ok(date_after(n))
 }
 
 // The last day of a pass of 1 to 12 months: 26 if there are fewer or more, then what the first day is refused by, then 25.
-pub fn last_day(first: i64, months: i64) -> Day
-    ensures { day_of result ≡ last_day first months }
+pub fn last_day(first: i64, months: i64) -> Result<u64, Refusal>
+    ensures { answer_of result ≡ last_day first months }
 {
     if months < 1 {
-        return Day::Refused(26);
+        return Err(Refusal::MonthsOutside);
     }
     let k = extent(months);
     if 12 < k {
-        return Day::Refused(26);
+        return Err(Refusal::MonthsOutside);
     }
-    match date_of(first) {
-        Dated::Refused(k) => Day::Refused(k),
-        Dated::Date(d) => in_two_bytes(end_before(months_on(d, k))),
-    }
+    let date = date_of(first)?;
+    in_two_bytes(end_before(months_on(date, k)))
 }

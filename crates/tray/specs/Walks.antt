@@ -1,13 +1,15 @@
 -- What the walks over a run say, in the definition's terms.
-use Rattle.std.specs.Prelude.{ℕ, ◌≤◌, ◌≡◌, true, List, ◌++◌, length, drop}
+use Rattle.std.specs.Prelude.{ℕ, ◌≤◌, ◌≡◌, true, List, ◌++◌, length, drop, Result, Ok, Err}
 use Rattle.definition.specs.Answers.{Checked, refused, accepted}
 use Rattle.definition.specs.Calls.{call, pack, record_of}
 use Rattle.definition.specs.Trays.{lists, Placed, placed, records_from, TrayCall}
 use Rattle.definition.specs.Kept.{written_from}
+use Rattle.definition.specs.Refusals.{refusal_number}
+use Rattle.definition.specs.declared.Refusal.{Refusal}
 use Rattle.definition.specs.declared.State.{State}
 use Rattle.align.specs.Amounts.{SameTo63}
 use Rattle.values.specs.Meaning.{is_accepted}
-use Rattle.tray.specs.declared.Tray.{Tray}
+use Rattle.tray.specs.declared.TrayRefusal.{TrayRefusal}
 
 -- ---- the records of a format f, each laid out from the state s
 
@@ -30,10 +32,19 @@ pub record Counted (t : Placed (List ℕ)) (n : ℕ) : Type 0 where
   pub is : t ≡ placed 0 (accepted bytes)
   pub counts : SameTo63 n (length bytes)
 
+-- ---- what the code's refusals say
+
+-- one that no list is the reason for
+abbrev pub unplaced : Refusal → TrayRefusal
+unplaced r = record { refusal = r; place = 0 }
+
+abbrev pub placed_of : TrayRefusal → Placed (List ℕ)
+placed_of r = placed r.place (refused (refusal_number r.refusal))
+
 -- what the first walk answers of a tray
-abbrev pub Told : Placed (List ℕ) → Tray → Type 0
-Told t (Tray.Refused k p) = t ≡ placed p (refused k)
-Told t (Tray.Length n) = Counted t n
+abbrev pub Told : Placed (List ℕ) → Result ℕ TrayRefusal → Type 0
+Told t (Err r) = t ≡ placed_of r
+Told t (Ok n) = Counted t n
 
 -- it has bytes, and n bytes hold them
 pub record Fits (t : Placed (List ℕ)) (n : ℕ) : Type 0 where
@@ -52,6 +63,6 @@ pub record RecordFits (s : State) (f l : List ℕ) (n : ℕ) : Type 0 where
   pub room : length (bytes_from s f l) ≤ n
 
 -- ---- what the call answers, with what its buffer then holds
-abbrev pub tray_call_of : Tray → List ℕ → TrayCall
-tray_call_of (Tray.Refused k p) b = record { place = p; call = call (refused k) b }
-tray_call_of (Tray.Length n) b = record { place = 0; call = call (accepted n) b }
+abbrev pub tray_call_of : Result ℕ TrayRefusal → List ℕ → TrayCall
+tray_call_of (Err r) b = record { place = r.place; call = call (refused (refusal_number r.refusal)) b }
+tray_call_of (Ok n) b = record { place = 0; call = call (accepted n) b }

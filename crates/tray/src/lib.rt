@@ -4,79 +4,101 @@
 ghost use Rattle.std.specs.Prelude.{◌≡◌, ◌++◌, ◌≤◌, length, drop};
 ghost use Rattle.definition.specs.Options.{options};
 ghost use Rattle.definition.specs.Calls.{pack};
+ghost use Rattle.definition.specs.Refusals.{answer_of, refusal_number};
 ghost use Rattle.definition.specs.Trays.{lists, pack_tray};
 ghost use Rattle.laws.proofs.Calls.{Sound};
 ghost use Rattle.options.specs.Packed.{table_at};
-ghost use Rattle.write_pass.specs.Walks.{answer_of, summed};
-ghost use Rattle.tray.specs.Walks.{bytes_from, tray_from, refused_at, Told, Fits, RecordFits, put_in, tray_call_of};
+ghost use Rattle.write_pass.specs.Walks.{summed};
+ghost use Rattle.tray.specs.Walks.{bytes_from, tray_from, refused_at, unplaced, placed_of, Told, Fits, RecordFits, put_in, tray_call_of};
 
 use align::sum;
-use definition::State;
+use definition::{Continued, Refusal, State};
 use front::settings;
-use options::table;
-use runs::{Entry, is_run, list_at};
+use options::{OptionTable, table};
+use runs::{is_run, list_at};
 use values::is_list;
-use write_pass::{Total, pass};
+use write_pass::pass;
 
-// What packing a tray answers: a refusal's number and its place, or the tray's length.
+// Why a tray is refused, and the place of the record that is: its list's place from 1, or 0 of what no list is refused for.
 #[derive(Clone, Copy)]
-pub enum Tray {
-    Refused(u8, u64),
-    Length(u64),
+pub struct TrayRefusal {
+    pub refusal: Refusal,
+    pub place: u64,
+}
+
+impl From<Refusal> for TrayRefusal {
+    ghost from_gives = { λ r t. t ≡ unplaced r };
+
+    // With no place.
+    fn from(refusal: Refusal) -> TrayRefusal {
+        TrayRefusal { refusal, place: 0 }
+    }
 }
 
 // ---- a record
 
 // Every check of a record by itself, from a state, and its length.
 fn check_record(
-    table: &[u8; 256],
+    table: &OptionTable,
     format: &[u8],
     state: State,
     list: &[u8],
     out: &mut [u8],
-) -> Total
-    requires table { table_at table.now ≡ options }
+) -> Result<Continued, Refusal>
+    requires table { table_at table.now.entries ≡ options }
     requires sound { Sound state }
     ensures total { answer_of result ≡ summed (pack state format.now list.now) }
     ensures bytes { out.new ≡ out.old }
 {
     if !is_list(list) {
-        return Total::Refused(21);
+        return Err(Refusal::Malformed);
     }
     pass(table, format, list, state, out, false)
 }
 
 // Puts a record that is accepted at the buffer's front, and says its length.
-fn put_record(table: &[u8; 256], format: &[u8], state: State, list: &[u8], out: &mut [u8]) -> usize
-    requires table { table_at table.now ≡ options }
+fn put_record(
+    table: &OptionTable,
+    format: &[u8],
+    state: State,
+    list: &[u8],
+    out: &mut [u8],
+) -> usize
+    requires table { table_at table.now.entries ≡ options }
     requires sound { Sound state }
     requires room { RecordFits state format.now list.now (length out.old) }
     ensures length { result ≡ length (bytes_from state format.now list.now) }
     ensures bytes { out.new ≡ bytes_from state format.now list.now ++ drop result out.old }
 {
-    match pass(table, format, list, state, out, true) {
-        // Never: the record is accepted.
-        Total::Refused(_) => 0,
-        Total::Of(c) => c.written as usize,
-    }
+    let Ok(record) = pass(table, format, list, state, out, true) else {
+        unreachable!();
+    };
+    record.written as usize
 }
 
 // ---- the two walks over a run, each record from a state
 
 // A record's refusal with its place, unless the rest of the run is damaged.
-fn refused_at(run: &[u8], next: usize, k: u8, place: u64) -> Tray
+fn refused_at(run: &[u8], next: usize, refusal: Refusal, place: u64) -> TrayRefusal
     requires { next ≤ length run.now }
-    ensures { Told (refused_at k place (lists (drop next run.now))) result }
+    ensures { placed_of result ≡ refused_at (refusal_number refusal) place (lists (drop next run.now)) }
 {
     if is_run(run, next) {
-        return Tray::Refused(k, place);
+        TrayRefusal { refusal, place }
+    } else {
+        TrayRefusal::from(Refusal::DamagedRun)
     }
-    Tray::Refused(23, 0)
 }
 
 // Every check, and the tray's length. After a refusal the walk goes on over the lengths alone, since 23 comes before it.
-fn check_tray(table: &[u8; 256], format: &[u8], state: State, run: &[u8], out: &mut [u8]) -> Tray
-    requires table { table_at table.now ≡ options }
+fn check_tray(
+    table: &OptionTable,
+    format: &[u8],
+    state: State,
+    run: &[u8],
+    out: &mut [u8],
+) -> Result<u64, TrayRefusal>
+    requires table { table_at table.now.entries ≡ options }
     requires sound { Sound state }
     ensures tray { Told (tray_from state format.now run.now) result }
     ensures bytes { out.new ≡ out.old }
@@ -84,53 +106,36 @@ fn check_tray(table: &[u8; 256], format: &[u8], state: State, run: &[u8], out: &
     let mut at = 0;
     let mut place = 1;
     let mut total = 0;
-    loop {
-        match list_at(run, at) {
-            Entry::End => return Tray::Length(total),
-            Entry::Malformed => return Tray::Refused(23, 0),
-            Entry::List(from, next) => match check_record(
-                table,
-                format,
-                state,
-                &run[from..next],
-                out,
-            ) {
-                Total::Refused(k) => return refused_at(run, next, k, place),
-                Total::Of(c) => {
-                    total = sum(total, c.written);
-                    place += 1;
-                    at = next;
-                }
-            },
+    while let Some((from, next)) = list_at(run, at)? {
+        match check_record(table, format, state, &run[from..next], out) {
+            Err(refusal) => return Err(refused_at(run, next, refusal, place)),
+            Ok(record) => total = sum(total, record.written),
         }
+        place += 1;
+        at = next;
     }
+    Ok(total)
 }
 
 // Puts the records of a tray that is accepted, one behind the other.
-fn put_tray(table: &[u8; 256], format: &[u8], state: State, run: &[u8], out: &mut [u8])
-    requires table { table_at table.now ≡ options }
+fn put_tray(table: &OptionTable, format: &[u8], state: State, run: &[u8], out: &mut [u8])
+    requires table { table_at table.now.entries ≡ options }
     requires sound { Sound state }
     requires room { Fits (tray_from state format.now run.now) (length out.old) }
     ensures { out.new ≡ put_in out.old (tray_from state format.now run.now).answer }
 {
     let mut at = 0;
     let mut end = 0;
-    loop {
-        match list_at(run, at) {
-            Entry::End => return,
-            // Never: the first walk has come to the end.
-            Entry::Malformed => return,
-            Entry::List(from, next) => {
-                end += put_record(table, format, state, &run[from..next], &mut out[end..]);
-                at = next;
-            }
-        }
+    // The first walk has come to the run's end, so nothing else ends this one.
+    while let Ok(Some((from, next))) = list_at(run, at) {
+        end += put_record(table, format, state, &run[from..next], &mut out[end..]);
+        at = next;
     }
 }
 
 // Packs a tray: the records stand at the buffer's front, and no other byte has changed; or a refusal, and none has. The
 // settings at the format's front are run once for all records.
-pub fn pack_tray(format: &[u8], run: &[u8], out: &mut [u8]) -> Tray
+pub fn pack_tray(format: &[u8], run: &[u8], out: &mut [u8]) -> Result<u64, TrayRefusal>
     ensures { tray_call_of result out.new ≡ pack_tray format.now run.now out.old }
 {
     // Copied once a call: each use of a constant copies it anew.
@@ -139,13 +144,10 @@ pub fn pack_tray(format: &[u8], run: &[u8], out: &mut [u8]) -> Tray
     let at = front.at;
     let state = front.state;
     let rest = &format[at..];
-    let tray = check_tray(&options, rest, state, run, out);
-    let Tray::Length(n) = tray else {
-        return tray;
-    };
+    let n = check_tray(&options, rest, state, run, out)?;
     if (out.len() as u64) < n {
-        return Tray::Refused(22, 0);
+        return Err(TrayRefusal::from(Refusal::ResultTooLong));
     }
     put_tray(&options, rest, state, run, out);
-    Tray::Length(n)
+    Ok(n)
 }
