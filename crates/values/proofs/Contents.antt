@@ -4,6 +4,7 @@ use mathlib.Core.Path.{◌≡◌, refl, sym, ap, ◌∙◌, subst}
 use mathlib.Core.Bool.{Bool, true, false, cond, ◌||◌}
 use mathlib.Core.List.{List}
 use mathlib.Core.Option.{some}
+use Rattle.std.specs.Prelude.{Some, None}
 use native.Mathlib.Nat.{add_assoc}
 use native.Mathlib.Numerals.{add-one}
 use native.Mathlib.Omega.{arith}
@@ -22,7 +23,6 @@ use Rattle.values.specs.Loading.{Loaded}
 use Rattle.values.specs.Meaning.{is_accepted, meaning, Proper, Inside, FloatRead, Standing, placed, field_at, size_at, Complete, numeric, suits, FieldRead}
 use Rattle.values.specs.declared.Value.{Value}
 use Rattle.values.specs.declared.Value.TheVariants.{Integer, Text, Other}
-use Rattle.values.specs.declared.Field.TheVariants.{Found, End}
 
 -- ---- which contents suit a tag
 module _ (t n : ℕ) where
@@ -40,7 +40,7 @@ module _ (t n : ℕ) where
 
 -- ---- a field that is cut short
 module _ (l : List ℕ) (at : ℕ) where
-  pub at_end : length l ≤ at → FieldRead l at End
+  pub at_end : length l ≤ at → FieldRead l at None
   unfolding field_at
   at_end h = record { says = rw (drop_of_length-le l h); sound = tt }
 
@@ -142,15 +142,15 @@ module _ (l : List ℕ) (at : ℕ) (known : is_accepted (values (drop at l)) ≡
   suited = sure (suits tag n) (λ e. not_refused (rw e at (by_suits l at n complete)))
 
   -- the field of a value v
-  is : (v : Value) (next : ℕ) → at + 3 + n ≡ next → Proper v → Inside l v → value_of tag (take n (drop (at + 3) l)) ≡ accepted (meaning l v) → FieldRead l at (Found v next)
-  is v next e p i m = subst (λ (k : ℕ). FieldRead l at (Found v k)) e (record { says = sym (all_there l at n complete ∙ rw m); sound = record { behind = omega arith; within = within; proper = p; inside = i } })
+  is : (v : Value) (next : ℕ) → at + 3 + n ≡ next → Proper v → Inside l v → value_of tag (take n (drop (at + 3) l)) ≡ accepted (meaning l v) → FieldRead l at (Some (v, next))
+  is v next e p i m = subst (λ (k : ℕ). FieldRead l at (Some (v, k))) e (record { says = sym (all_there l at n complete ∙ rw m); sound = record { behind = omega arith; within = within; proper = p; inside = i } })
 
-  pub text_field : numeric tag ≡ false → (tag ≡ 0 → ⊥) → (r : ℕ) → Loaded l (at + 1) 2 r → FieldRead l at (Found (Text (at + 3) r) (at + 3 + r))
+  pub text_field : numeric tag ≡ false → (tag ≡ 0 → ⊥) → (r : ℕ) → Loaded l (at + 1) 2 r → FieldRead l at (Some (Text (at + 3) r, at + 3 + r))
   text_field e none r word =
       let three = eqb-true tag 3 (suits_text tag n e none ∙ suited) in
       is (Text (at + 3) r) (at + 3 + r) (omega (arith, word.is)) tt (omega (arith, word.is, within), omega (arith, word.below)) (rw (three, word.is))
 
-  pub other_field : tag ≡ 0 → FieldRead l at (Found Other (at + 3))
+  pub other_field : tag ≡ 0 → FieldRead l at (Some (Other, at + 3))
   other_field e =
       let none : n ≡ 0 = eqb-true n 0 (suits_other tag n e ∙ suited) in
       is Other (at + 3) (omega (arith, none)) tt tt (rw (e, length_content l at n complete, none))
@@ -160,16 +160,16 @@ module _ (l : List ℕ) (at : ℕ) (known : is_accepted (values (drop at l)) ≡
     eight = eqb-true n 8 (suits_number tag n e ∙ suited)
 
     module _ (b : ℕ) (word : Loaded l (at + 3) 8 b) where
-      number : (v : Value) → Proper v → Inside l v → value_of tag (take 8 (drop (at + 3) l)) ≡ accepted (meaning l v) → FieldRead l at (Found v (at + 3 + 8))
+      number : (v : Value) → Proper v → Inside l v → value_of tag (take 8 (drop (at + 3) l)) ≡ accepted (meaning l v) → FieldRead l at (Some (v, at + 3 + 8))
       number v p i m = is v (at + 3 + 8) (omega (arith, eight)) p i (rw eight m)
 
       length_eight : eqb (length (take 8 (drop (at + 3) l))) 8 ≡ true
       length_eight = eq-eqb _ 8 (length-take-le 8 (drop (at + 3) l) (omega (arith, within, eight, length-drop (at + 3) l)))
 
-      pub integer_field : tag ≡ 1 → FieldRead l at (Found (Integer (signed 8 b)) (at + 3 + 8))
+      pub integer_field : tag ≡ 1 → FieldRead l at (Some (Integer (signed 8 b), at + 3 + 8))
       integer_field one = number (Integer (signed 8 b)) tt tt (rw (one, length_eight, ← word.is))
 
-      pub float_field : (tag ≡ 1 → ⊥) → (v : Value) → FloatRead b v → FieldRead l at (Found v (at + 3 + 8))
+      pub float_field : (tag ≡ 1 → ⊥) → (v : Value) → FloatRead b v → FieldRead l at (Some (v, at + 3 + 8))
       float_field one v f =
           let two = eqb-true tag 2 (rw (ne_eqb tag 1 one) at e) in
           number v f.proper (f.inside l) (rw (two, length_eight, f.says l, ← word.is))

@@ -1,5 +1,6 @@
 -- What the code's values and fields mean, in the definition's terms.
-use Rattle.std.specs.Prelude.{ℕ, ◌+◌, ◌≤◌, ◌<◌, ◌≡◌, Bool, true, false, not, cond, ◌||◌, List, [], ◌∷◌, T, eqb, length, take, drop, get_or}
+use Rattle.std.specs.Prelude.{ℕ, ◌+◌, ◌≤◌, ◌<◌, ◌≡◌, Bool, true, false, not, cond, ◌||◌, List, [], ◌∷◌, T, eqb, length, take, drop, get_or, Some, None}
+use Rattle.std.specs.Prelude as rust
 use Rattle.std.proofs.Math.Option.{Option, none, some}
 use Rattle.std.specs.Float.{binary64}
 use Rattle.std.specs.Float.Ieee.{to_bits, is_nan, nan_bits}
@@ -7,11 +8,8 @@ use Rattle.definition.specs.Answers.{Checked, refused, accepted, ◌>>=◌}
 use Rattle.definition.specs.Values as definition
 use Rattle.definition.specs.Values.{integer, float, text, other}
 use Rattle.definition.specs.Lists.{big_total, field_of}
-use Rattle.values.specs.declared.Content.{Content}
 use Rattle.values.specs.declared.Value.{Value}
 use Rattle.values.specs.declared.Value.TheVariants.{Integer, Float, NotANumber, Text, Other}
-use Rattle.values.specs.declared.Field.{Field}
-use Rattle.values.specs.declared.Field.TheVariants.{Found, End}
 
 -- ---- values
 
@@ -65,9 +63,9 @@ unfoldable pub field_at : List ℕ → ℕ → Standing
 field_at l at = first_field at (drop at l)
 
 -- what the code's answer says of the list l
-abbrev pub answer : List ℕ → Field → Standing
-answer l (Found v next) = some (accepted (meaning l v, next))
-answer l End = none
+abbrev pub answer : List ℕ → rust.Option (Value × ℕ) → Standing
+answer l (Some (v, next)) = some (accepted (meaning l v, next))
+answer l None = none
 
 -- what else is so of a field that is found at an offset of l
 pub record Sound (l : List ℕ) (at : ℕ) (v : Value) (next : ℕ) : Type 0 where
@@ -76,9 +74,9 @@ pub record Sound (l : List ℕ) (at : ℕ) (v : Value) (next : ℕ) : Type 0 whe
   pub proper : Proper v
   pub inside : Inside l v
 
-abbrev pub SoundField : List ℕ → ℕ → Field → Type 0
-SoundField l at (Found v next) = Sound l at v next
-SoundField l at End = Unit {0}
+abbrev pub SoundField : List ℕ → ℕ → rust.Option (Value × ℕ) → Type 0
+SoundField l at (Some (v, next)) = Sound l at v next
+SoundField l at None = Unit {0}
 
 -- the length of content that the field at an offset of l says
 abbrev pub size_at : List ℕ → ℕ → ℕ
@@ -90,9 +88,9 @@ pub record Complete (l : List ℕ) (at n : ℕ) : Type 0 where
   pub size : n ≡ size_at l at
 
 -- what the code says of that length: n, or that l ends before
-abbrev pub LengthRead : List ℕ → ℕ → Content → Type 0
-LengthRead l at (Content.Length n) = Complete l at n
-LengthRead l at Content.Malformed = length l < at + 3 + size_at l at
+abbrev pub LengthRead : List ℕ → ℕ → rust.Option ℕ → Type 0
+LengthRead l at (Some n) = Complete l at n
+LengthRead l at None = length l < at + 3 + size_at l at
 
 -- the tag of a number
 abbrev pub numeric : ℕ → Bool
@@ -108,12 +106,12 @@ pub record Whole (l : List ℕ) (at n : ℕ) : Type 0 where
   pub tag : suits (get_or l at 0) n ≡ true
 
 -- what the code says of the field at an offset: well formed, or refused
-abbrev pub ContentRead : List ℕ → ℕ → Content → Type 0
-ContentRead l at (Content.Length n) = Whole l at n
-ContentRead l at Content.Malformed = some (refused 21) ≡ field_at l at
+abbrev pub ContentRead : List ℕ → ℕ → rust.Option ℕ → Type 0
+ContentRead l at (Some n) = Whole l at n
+ContentRead l at None = some (refused 21) ≡ field_at l at
 
 -- r is the field at an offset of l
-pub record FieldRead (l : List ℕ) (at : ℕ) (r : Field) : Type 0 where
+pub record FieldRead (l : List ℕ) (at : ℕ) (r : rust.Option (Value × ℕ)) : Type 0 where
   pub says : answer l r ≡ field_at l at
   pub sound : SoundField l at r
 

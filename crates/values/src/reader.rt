@@ -1,10 +1,11 @@
 // The value reader: a list, and the offset of one of its fields. Every reading of a field goes through it.
-// A method takes it apart and calls a function of the two.
-ghost use Rattle.std.specs.Prelude.{◌≡◌, true, ◌≤◌, length, drop};
+ghost use Rattle.std.specs.Prelude.{◌≡◌, true, ◌≤◌, ◌<◌, length, drop, Some};
 ghost use Rattle.definition.specs.Lists.{values};
 ghost use Rattle.values.specs.Meaning.{LengthRead, FieldRead, is_accepted};
 
-use crate::{Content, Field, read_field, read_length};
+use crate::{Value, float_of, is_number, number_at};
+use definition::{HEAD, TAG_INTEGER, TAG_OTHER};
+use words::to_signed;
 
 #[derive(Clone, Copy)]
 pub struct Reader<'a> {
@@ -13,19 +14,51 @@ pub struct Reader<'a> {
 }
 
 impl<'a> Reader<'a> {
-    // The field, where the list is well formed from it on.
-    pub fn field(self) -> Field
-        requires { is_accepted (values (drop self.at self.list.now)) ≡ true }
-        ensures { FieldRead self.entry.list.now self.entry.at result }
-    {
-        read_field(self.list, self.at)
-    }
-
-    // The length that the field says, where the list has as many bytes.
-    pub fn length(self) -> Content
+    // The length that the field says. None where the list ends before so many bytes.
+    pub fn length(self) -> Option<usize>
         requires { self.at ≤ length self.list.now }
         ensures { LengthRead self.entry.list.now self.entry.at result }
     {
-        read_length(self.list, self.at)
+        if self.list.len() - self.at < HEAD {
+            return None;
+        }
+        let n = number_at(self.list, self.at + 1, 2) as usize;
+        if self.list.len() - self.at - HEAD < n {
+            return None;
+        }
+        Some(n)
+    }
+
+    // The field, where the list is well formed from it on and does not end there.
+    fn value(self) -> (Value, usize)
+        requires inside { self.at < length self.list.now }
+        requires list_sound { is_accepted (values (drop self.at self.list.now)) ≡ true }
+        ensures { FieldRead self.entry.list.now self.entry.at (Some result) }
+    {
+        let tag = self.list[self.at];
+        let start = self.at + HEAD;
+        if is_number(tag) {
+            let b = number_at(self.list, start, 8);
+            if tag == TAG_INTEGER {
+                return (Value::Integer(to_signed(b)), start + 8);
+            }
+            return (float_of(b), start + 8);
+        }
+        if tag == TAG_OTHER {
+            return (Value::Other, start);
+        }
+        let n = number_at(self.list, self.at + 1, 2) as usize;
+        (Value::Text(start, n), start + n)
+    }
+
+    // The field, where the list is well formed from it on. None at the list's end.
+    pub fn field(self) -> Option<(Value, usize)>
+        requires { is_accepted (values (drop self.at self.list.now)) ≡ true }
+        ensures { FieldRead self.entry.list.now self.entry.at result }
+    {
+        if self.at >= self.list.len() {
+            return None;
+        }
+        Some(self.value())
     }
 }
