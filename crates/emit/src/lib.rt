@@ -4,7 +4,6 @@
 ghost use Rattle.std.specs.Prelude.{◌≡◌, true, cond, ◌++◌, ◌+◌, ◌≤◌, length, replicate};
 ghost use Rattle.std.proofs.Math.Seq.{paste};
 ghost use Rattle.definition.specs.Bytes.{laid};
-ghost use Rattle.store.specs.Texts.{text_bytes, counted_bytes};
 ghost use Rattle.word.specs.Words.{fill_of};
 
 use store::{put as put_integer, put_copy, put_zeros};
@@ -47,30 +46,20 @@ pub fn emit_number(
     put_integer(out, at + zeros, size, big, word, fill(word));
 }
 
-// Zeros, and a text of the list after them, with zeros after it.
-pub fn emit_text(
-    put: bool,
-    out: &mut [u8],
-    at: usize,
-    pads: usize,
-    list: &[u8],
-    start: usize,
-    n: usize,
-    zeros: usize,
-)
-    requires room { (put ≡ true → at + (pads + (n + zeros)) ≤ length out.old) }
-    requires inside { start + n ≤ length list.now }
-    ensures { out.new ≡ cond put (paste out.old at (replicate pads 0 ++ text_bytes list.now start n zeros) (pads + (n + zeros))) out.old }
+// Zeros, and a text after them, with zeros after it.
+pub fn emit_text(put: bool, out: &mut [u8], at: usize, pads: usize, text: &[u8], zeros: usize)
+    requires { put ≡ true → at + (pads + (length text.now + zeros)) ≤ length out.old }
+    ensures { out.new ≡ cond put (paste out.old at (replicate pads 0 ++ (text.now ++ replicate zeros 0)) (pads + (length text.now + zeros))) out.old }
 {
     if !put {
         return;
     }
     put_zeros(out, at, pads);
-    put_copy(out, at + pads, list, start, n);
-    put_zeros(out, at + pads + n, zeros);
+    put_copy(out, at + pads, text);
+    put_zeros(out, at + pads + text.len(), zeros);
 }
 
-// Zeros, and a text of the list after them, with its length before it in so many bytes.
+// Zeros, and a text after them, with its length before it in so many bytes.
 pub fn emit_counted(
     put: bool,
     out: &mut [u8],
@@ -78,18 +67,15 @@ pub fn emit_counted(
     pads: usize,
     big: bool,
     size: usize,
-    list: &[u8],
-    start: usize,
-    n: usize,
+    text: &[u8],
 )
-    requires room { (put ≡ true → at + (pads + (size + n)) ≤ length out.old) }
-    requires inside { start + n ≤ length list.now }
-    ensures { out.new ≡ cond put (paste out.old at (replicate pads 0 ++ counted_bytes big list.now size start n) (pads + (size + n))) out.old }
+    requires { put ≡ true → at + (pads + (size + length text.now)) ≤ length out.old }
+    ensures { out.new ≡ cond put (paste out.old at (replicate pads 0 ++ (laid big size (length text.now) 0 ++ text.now)) (pads + (size + length text.now))) out.old }
 {
     if !put {
         return;
     }
     put_zeros(out, at, pads);
-    put_integer(out, at + pads, size, big, n as u64, 0);
-    put_copy(out, at + pads + size, list, start, n);
+    put_integer(out, at + pads, size, big, text.len() as u64, 0);
+    put_copy(out, at + pads + size, text);
 }

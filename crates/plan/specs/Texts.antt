@@ -1,38 +1,30 @@
 -- What is read of a text option's field: the text, or 11 or 12.
-use Rattle.std.specs.Prelude.{ℕ, ◌+◌, ◌≤◌, ◌≡◌, List, ◌∷◌, length, take, drop}
-use Rattle.std.proofs.Math.Option.{none}
+use Rattle.std.specs.Prelude.{ℕ, ◌+◌, ◌≤◌, ◌≡◌, List, ◌∷◌, length, take, drop, Result, Ok, Err}
 use Rattle.definition.specs.Answers.{Checked, refused, accepted, ◌>>=◌, or_else}
+use Rattle.definition.specs.Refusals.{refusal_number}
 use Rattle.definition.specs.Values as definition
 use Rattle.definition.specs.Values.{text, as_bytes}
 use Rattle.definition.specs.Lists.{values}
 use Rattle.definition.specs.Writing.{taking}
-use Rattle.values.specs.Meaning.{meaning}
-use Rattle.values.specs.declared.Value.{Value}
-use Rattle.values.specs.declared.Value.TheVariants as values
+use Rattle.definition.specs.declared.Refusal.{Refusal}
 use Rattle.plan.specs.declared.text.Text.{Text}
-use Rattle.plan.specs.declared.text.Text.TheVariants.{Refused, At}
 
 -- the bytes of the first value
 abbrev pub first_text : List definition.Value → Checked (List ℕ)
 first_text vs = taking vs >>= λ t. or_else (as_bytes t.0) (refused 12)
 
--- the first of the values vs is the n bytes of l from `start`, and the others are those of l from `next`
-pub record TextFound (l : List ℕ) (vs : List definition.Value) (start n next : ℕ) : Type 0 where
+-- the first of the values vs is the text t of l, and the others are those of l behind it
+pub record TextFound (l : List ℕ) (vs : List definition.Value) (t : Text) : Type 0 where
   pub rest : List definition.Value
-  pub is : vs ≡ text (take n (drop start l)) ∷ rest
-  pub list : values (drop next l) ≡ accepted rest
+  pub is : vs ≡ text (take t.length (drop t.start l)) ∷ rest
+  pub list : values (drop t.next l) ≡ accepted rest
 
 -- the text lies inside the list, and two bytes can say its length
-pub record TextAt (l : List ℕ) (at start n next : ℕ) : Type 0 where
-  pub within : start + n ≤ length l
-  pub short : n ≤ 65535
-  pub found : (vs : List definition.Value) → values (drop at l) ≡ accepted vs → TextFound l vs start n next
+pub record TextAt (l : List ℕ) (at : ℕ) (t : Text) : Type 0 where
+  pub within : t.start + t.length ≤ length l
+  pub short : t.length ≤ 65535
+  pub found : (vs : List definition.Value) → values (drop at l) ≡ accepted vs → TextFound l vs t
 
-abbrev pub TextRead : List ℕ → ℕ → Text → Type 0
-TextRead l at (Refused k) = (vs : List definition.Value) → values (drop at l) ≡ accepted vs → first_text vs ≡ refused k
-TextRead l at (At start n next) = TextAt l at start n next
-
--- the text that is the value v, or 12 for any other
-abbrev pub TextOf : Value → ℕ → Text → Type 0
-TextOf v next (Refused k) = (k ≡ 12) × ((l : List ℕ) → as_bytes (meaning l v) ≡ none)
-TextOf v next (At start n m) = (v ≡ values.Text start n) × (m ≡ next)
+abbrev pub TextRead : List ℕ → ℕ → Result Text Refusal → Type 0
+TextRead l at (Err r) = (vs : List definition.Value) → values (drop at l) ≡ accepted vs → first_text vs ≡ refused (refusal_number r)
+TextRead l at (Ok t) = TextAt l at t

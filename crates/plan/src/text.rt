@@ -3,50 +3,54 @@ ghost use Rattle.std.specs.Prelude.{◌≡◌, true, ◌+◌, ◌≤◌, length,
 ghost use Rattle.definition.specs.Fields as fields;
 ghost use Rattle.definition.specs.Lists.{values};
 ghost use Rattle.values.specs.Meaning.{is_accepted};
-ghost use Rattle.plan.specs.Texts.{TextOf, TextRead};
+ghost use Rattle.plan.specs.Texts.{TextRead};
 
-use values::{Field, Value, field_at};
+use definition::Refusal;
+use values::{Value, field_at};
 
-// The number of a refusal, or a text: where it starts in the list, its length, and where the next field starts.
+// A text of the list: where it starts, its length, and where the list's next field starts.
 #[derive(Clone, Copy)]
-pub enum Text {
-    Refused(u8),
-    At(usize, usize, usize),
+pub struct Text {
+    pub start: usize,
+    pub length: usize,
+    pub next: usize,
 }
 
-// A value that is a text, or 12.
-fn text_of(v: Value, next: usize) -> Text
-    ensures { TextOf v next result }
-{
-    let Value::Text(start, n) = v else {
-        return Text::Refused(12);
-    };
-    Text::At(start, n, next)
+impl Text {
+    // Its bytes.
+    pub fn bytes<'a>(self, list: &'a [u8]) -> &'a [u8]
+        requires { self.start + self.length ≤ length list.now }
+        ensures { result.now ≡ take self.length (drop self.start list.now) }
+    {
+        &list[self.start..self.start + self.length]
+    }
 }
 
 // The text of the field at an offset: 11, 12.
-pub fn text_at(list: &[u8], at: usize) -> Text
+pub fn text_at(list: &[u8], at: usize) -> Result<Text, Refusal>
     requires { is_accepted (values (drop at list.now)) ≡ true }
     ensures { TextRead list.now at result }
 {
     match field_at(list, at) {
-        Field::Found(v, next) => text_of(v, next),
-        Field::End => Text::Refused(11),
+        Some((Value::Text(start, length), next)) => Ok(Text {
+            start,
+            length,
+            next,
+        }),
+        Some(_) => Err(Refusal::WrongKind),
+        None => Err(Refusal::NoValueLeft),
     }
 }
 
-// Whether a zero stands among the n bytes from `start`. All of them are looked at.
-pub fn has_zero(list: &[u8], start: usize, n: usize) -> bool
-    requires { start + n ≤ length list.now }
-    ensures { result ≡ fields.has_zero (take n (drop start list.now)) }
+// Whether a zero stands in a text. All of its bytes are looked at, so that the loop goes over many at a time.
+pub fn has_zero(text: &[u8]) -> bool
+    ensures { result ≡ fields.has_zero text.now }
 {
     let mut found = false;
-    let mut i = 0;
-    while i < n {
-        if list[start + i] == 0 {
+    for b in text {
+        if *b == 0 {
             found = true;
         }
-        i += 1;
     }
     found
 }

@@ -1,7 +1,8 @@
 -- How far a pass over a format has come, and what it has put.
-use Rattle.std.specs.Prelude.{ℕ, ◌+◌, ◌-◌, ◌≤◌, ◌≡◌, true, List, [], length, drop}
+use Rattle.std.specs.Prelude.{ℕ, ◌+◌, ◌-◌, ◌≤◌, ◌≡◌, true, List, [], length, drop, Option, None, Some, Result, Ok, Err}
 use Rattle.std.proofs.Math.Seq.{paste}
 use Rattle.definition.specs.Answers.{Checked, refused, accepted, ◌>>=◌}
+use Rattle.definition.specs.Refusals.{refusal_number}
 use Rattle.definition.specs.Values.{Value}
 use Rattle.definition.specs.Lists.{values}
 use Rattle.definition.specs.States.{further}
@@ -10,11 +11,9 @@ use Rattle.definition.specs.Calls.{record_of, continued_of}
 use Rattle.definition.specs.declared.Continued.{Continued}
 use Rattle.definition.specs.declared.State.{State}
 use Rattle.definition.specs.declared.Op.{Op}
+use Rattle.definition.specs.declared.Refusal.{Refusal}
 use Rattle.values.specs.Meaning.{is_accepted}
 use Rattle.write_pass.specs.declared.Progress.{Progress}
-use Rattle.write_pass.specs.declared.Total.{Total}
-use Rattle.write_pass.specs.declared.Step.{Step}
-use Rattle.write_pass.specs.declared.Step.TheVariants.{Refused, Skip, To}
 
 -- the values of a list, which is well formed
 abbrev pub listed : Checked (List Value) → List Value
@@ -27,11 +26,6 @@ values_of l = listed (values l)
 -- what continued writing answers of a run
 abbrev pub summed : Checked (Place Value × Output) → Checked Continued
 summed w = w >>= λ r. accepted (continued_of r)
-
--- what the answer of a pass says
-abbrev pub answer_of : Total → Checked Continued
-answer_of (Total.Refused k) = refused k
-answer_of (Total.Of c) = accepted c
 
 -- ---- what a run puts into a buffer
 
@@ -69,7 +63,8 @@ pub record Moved (l : List ℕ) (p : Progress) (op : Op) (q : Progress) : Type 0
   pub items : q.items ≡ p.items + out.items
   pub few : (q.used ≤ p.used + 1) × (q.items ≤ p.items + 1)
 
-abbrev pub Stepped : List ℕ → Progress → Op → Step → Type 0
-Stepped l p op (Refused k) = written l p op ≡ refused k
-Stepped l p op Skip = Moved l p op p
-Stepped l p op (To q) = Moved l p op q
+-- where an item takes the pass: nowhere, if it is a blank
+abbrev pub Stepped : List ℕ → Progress → Op → Result (Option Progress) Refusal → Type 0
+Stepped l p op (Err r) = written l p op ≡ refused (refusal_number r)
+Stepped l p op (Ok None) = Moved l p op p
+Stepped l p op (Ok (Some q)) = Moved l p op q
