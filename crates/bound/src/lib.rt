@@ -4,23 +4,20 @@
 ghost use Rattle.std.specs.Prelude.{◌≡◌, ◌+◌, min};
 ghost use Rattle.definition.specs.Bound as bounds;
 ghost use Rattle.definition.specs.Calls.{list_bound};
-ghost use Rattle.laws.proofs.Ops.{Sizes};
-ghost use Rattle.align.specs.Amounts.{state_of};
+ghost use Rattle.definition.specs.Refusals.{answer_of};
 ghost use Rattle.options.specs.Packed.{table_at};
 ghost use Rattle.bound.specs.Fields.{bound_aligned, bound_field, bound_pad};
-ghost use Rattle.measure.specs.Measured.{measured_of};
 
-use align::{Amount, MAX_LENGTH, Next as Stepped, alignment, longer, natural, parts, set, start};
-use definition::{Field, Op, State};
-use format::cursor::{Cursor, Next};
-use measure::Measured;
-use options::table;
+use align::{MAX_LENGTH, alignment, longer, natural, parts, set, start};
+use definition::{Field, Op, Refusal, State};
+use format::cursor::Cursor;
+use options::{OptionTable, table};
 
 // The length of a text's field, of at most 65,535 bytes.
 fn text_field(n: u64) -> u64
     ensures { result ≡ 3 + min n 65535 }
 {
-    if n < 65535 { 3 + n } else { 65538 }
+    3 + n.min(65535)
 }
 
 // The most bytes that a field takes in the list.
@@ -30,80 +27,66 @@ fn most(f: Field, data_length: u64) -> u64
     match f {
         Field::Number(_, _) => 11,
         Field::Chars(n) => text_field(n),
-        Field::ZeroEnded => text_field(data_length),
-        Field::Counted(_) => text_field(data_length),
+        Field::ZeroEnded | Field::Counted(_) => text_field(data_length),
     }
 }
 
 // The sum n on, where an alignment is allowed.
-fn bound_aligned(s: State, natural: u64, n: u64) -> Stepped
-    ensures { state_of result ≡ bound_aligned s natural n }
+fn bound_aligned(s: State, natural: u64, n: u64) -> Result<State, Refusal>
+    ensures { answer_of result ≡ bound_aligned s natural n }
 {
-    match alignment(s, natural) {
-        Amount::Refused(k) => Stepped::Refused(k),
-        Amount::Bytes(_) => longer(s, n),
-    }
+    alignment(s, natural)?;
+    longer(s, n)
 }
 
 // The sum after a field, as the length of a state.
-fn bound_field(s: State, f: Field, data_length: u64) -> Stepped
-    ensures { state_of result ≡ bound_field data_length s f }
+fn bound_field(s: State, f: Field, data_length: u64) -> Result<State, Refusal>
+    ensures { answer_of result ≡ bound_field data_length s f }
 {
     bound_aligned(s, natural(f), most(f, data_length))
 }
 
 // The state as it is, where an alignment is allowed.
-fn bound_pad(s: State, n: u64) -> Stepped
-    ensures { state_of result ≡ bound_pad s n }
+fn bound_pad(s: State, n: u64) -> Result<State, Refusal>
+    ensures { answer_of result ≡ bound_pad s n }
 {
-    match alignment(s, n) {
-        Amount::Refused(k) => Stepped::Refused(k),
-        Amount::Bytes(_) => Stepped::State(s),
-    }
+    alignment(s, n)?;
+    Ok(s)
 }
 
 // The sum after an item.
 #[tactic(auto, unfolding(definition::specs::Bound::bound_op))]
-fn bound_op(s: State, op: Op, data_length: u64) -> Stepped
-    ensures { state_of result ≡ bounds.bound_op data_length s op }
+fn bound_op(s: State, op: Op, data_length: u64) -> Result<State, Refusal>
+    ensures { answer_of result ≡ bounds.bound_op data_length s op }
 {
     match op {
-        Op::Blank => Stepped::State(s),
-        Op::Set(x) => Stepped::State(set(s, x)),
+        Op::Blank => Ok(s),
+        Op::Set(x) => Ok(set(s, x)),
         Op::Pad(n, _) => bound_pad(s, n),
         Op::Put(f) => bound_field(s, f, data_length),
     }
 }
 
 // The list bound by the table that is lent.
-fn bound_by(table: &[u8; 256], format: &[u8], data_length: u64) -> Measured
-    requires { Sizes (table_at table.now) }
-    ensures { measured_of result ≡ bounds.bound (table_at table.now) format.now data_length }
+fn bound_by(table: &OptionTable, format: &[u8], data_length: u64) -> Result<u64, Refusal>
+    ensures { answer_of result ≡ bounds.bound (table_at table.now.entries) format.now data_length }
 {
     let mut c = Cursor::new();
     let mut s = start();
-    loop {
-        match c.next(table, format) {
-            Next::End => return Measured::Size(s.length),
-            Next::Refused(k) => return Measured::Refused(k),
-            Next::Item(i, d) => match bound_op(s, i.op(), data_length) {
-                Stepped::Refused(k) => return Measured::Refused(k),
-                Stepped::State(t) => {
-                    s = parts(t);
-                    c = d;
-                }
-            },
-        }
+    while let Some((item, next)) = c.next(table, format)? {
+        s = parts(bound_op(s, item.op(), data_length)?);
+        c = next;
     }
+    Ok(s.length)
 }
 
 // The list bound of a format and a data length.
 #[tactic(auto, unfolding(definition::specs::Calls::list_bound))]
-pub fn list_bound(format: &[u8], data_length: u64) -> Measured
-    ensures { measured_of result ≡ list_bound format.now data_length }
+pub fn list_bound(format: &[u8], data_length: u64) -> Result<u64, Refusal>
+    ensures { answer_of result ≡ list_bound format.now data_length }
 {
     if MAX_LENGTH < data_length {
-        return Measured::Refused(21);
+        return Err(Refusal::Malformed);
     }
     // Copied once a call: each use of a constant copies it anew.
     let options = table();

@@ -1,2 +1,1 @@
-pub mod Measured
 pub mod Fields

@@ -5,115 +5,83 @@ ghost use Rattle.std.specs.Prelude.{◌≡◌, ◌≤◌, T};
 ghost use Rattle.definition.specs.Measuring.{size_of, measure_pad, measure_op, measure_from};
 ghost use Rattle.definition.specs.Calls.{string_packsize};
 ghost use Rattle.laws.proofs.Fields.{valid_field};
-ghost use Rattle.laws.proofs.Ops.{Limited, Sizes, valid_op};
-ghost use Rattle.align.specs.Amounts.{amount_of, state_of};
+ghost use Rattle.definition.specs.Refusals.{answer_of};
+ghost use Rattle.laws.proofs.Ops.{Limited, valid_op};
 ghost use Rattle.options.specs.Packed.{table_at};
 ghost use Rattle.measure.specs.Fields.{measure_field};
-ghost use Rattle.measure.specs.Measured.{measured_of};
 
-use align::{Amount, Next as Stepped, longer, natural, padding, parts, set, start};
-use definition::{Field, Op, State};
-use format::cursor::{Cursor, Next};
-use options::table;
-
-// The number of a refusal, or a size.
-#[derive(Clone, Copy)]
-pub enum Measured {
-    Refused(u8),
-    Size(u64),
-}
+use align::{longer, natural, padding, parts, set, start};
+use definition::{Field, Op, Refusal, State};
+use format::cursor::Cursor;
+use options::{OptionTable, table};
 
 // The state after an alignment and n bytes. Mostly there is nothing to fill up.
-fn measure_pad(s: State, natural: u64, n: u64) -> Stepped
+fn measure_pad(s: State, natural: u64, n: u64) -> Result<State, Refusal>
     requires limited { Limited s }
     requires positive { 1 ≤ natural }
-    ensures { state_of result ≡ measure_pad s natural n }
+    ensures { answer_of result ≡ measure_pad s natural n }
 {
-    match padding(s, natural) {
-        Amount::Refused(k) => Stepped::Refused(k),
-        Amount::Bytes(p) => {
-            if p == 0 {
-                return longer(s, n);
-            }
-            match longer(s, p) {
-                Stepped::Refused(k) => Stepped::Refused(k),
-                Stepped::State(t) => longer(t, n),
-            }
-        }
+    let p = padding(s, natural)?;
+    if p == 0 {
+        return longer(s, n);
     }
+    longer(longer(s, p)?, n)
 }
 
-// The size of a field, or 10.
-fn size_of(f: Field) -> Amount
-    ensures { amount_of result ≡ size_of f }
+// The size of a field; z and s have none.
+fn size_of(f: Field) -> Result<u64, Refusal>
+    ensures { answer_of result ≡ size_of f }
 {
     match f {
-        Field::Number(_, n) => Amount::Bytes(n),
-        Field::Chars(n) => Amount::Bytes(n),
-        Field::ZeroEnded => Amount::Refused(10),
-        Field::Counted(_) => Amount::Refused(10),
+        Field::Number(_, n) | Field::Chars(n) => Ok(n),
+        Field::ZeroEnded | Field::Counted(_) => Err(Refusal::NoFixedSize),
     }
 }
 
 // The state after a field.
-fn measure_field(s: State, f: Field) -> Stepped
+fn measure_field(s: State, f: Field) -> Result<State, Refusal>
     requires limited { Limited s }
     requires valid_field { T (valid_field f) }
-    ensures { state_of result ≡ measure_field s f }
+    ensures { answer_of result ≡ measure_field s f }
 {
-    match size_of(f) {
-        Amount::Refused(k) => Stepped::Refused(k),
-        Amount::Bytes(n) => measure_pad(s, natural(f), n),
-    }
+    measure_pad(s, natural(f), size_of(f)?)
 }
 
 // The state after an item.
 #[tactic(auto, unfolding(definition::specs::Measuring::measure_op))]
-fn measure_op(s: State, op: Op) -> Stepped
+fn measure_op(s: State, op: Op) -> Result<State, Refusal>
     requires limited { Limited s }
     requires valid_op { T (valid_op op) }
-    ensures { state_of result ≡ measure_op s op }
+    ensures { answer_of result ≡ measure_op s op }
 {
     match op {
-        Op::Blank => Stepped::State(s),
-        Op::Set(x) => Stepped::State(set(s, x)),
+        Op::Blank => Ok(s),
+        Op::Set(x) => Ok(set(s, x)),
         Op::Pad(n, k) => measure_pad(s, n, k),
         Op::Put(f) => measure_field(s, f),
     }
 }
 
 // The state that a format leads to from a state, by the table that is lent.
-fn measure_from(table: &[u8; 256], format: &[u8], from: State) -> Stepped
-    requires sizes { Sizes (table_at table.now) }
-    requires limited { Limited from }
-    ensures { state_of result ≡ measure_from (table_at table.now) from format.now }
+fn measure_from(table: &OptionTable, format: &[u8], from: State) -> Result<State, Refusal>
+    requires { Limited from }
+    ensures { answer_of result ≡ measure_from (table_at table.now.entries) from format.now }
 {
     let mut c = Cursor::new();
     let mut s = from;
-    loop {
-        match c.next(table, format) {
-            Next::End => return Stepped::State(s),
-            Next::Refused(k) => return Stepped::Refused(k),
-            Next::Item(i, d) => match measure_op(s, i.op()) {
-                Stepped::Refused(k) => return Stepped::Refused(k),
-                Stepped::State(t) => {
-                    s = parts(t);
-                    c = d;
-                }
-            },
-        }
+    while let Some((item, next)) = c.next(table, format)? {
+        s = parts(measure_op(s, item.op())?);
+        c = next;
     }
+    Ok(s)
 }
 
 // The size of a format.
 #[tactic(auto, unfolding(definition::specs::Measuring::measure))]
-pub fn string_packsize(format: &[u8]) -> Measured
-    ensures { measured_of result ≡ string_packsize format.now }
+pub fn string_packsize(format: &[u8]) -> Result<u64, Refusal>
+    ensures { answer_of result ≡ string_packsize format.now }
 {
     // Copied once a call: each use of a constant copies it anew.
     let options = table();
-    match measure_from(&options, format, start()) {
-        Stepped::Refused(k) => Measured::Refused(k),
-        Stepped::State(s) => Measured::Size(s.length),
-    }
+    Ok(measure_from(&options, format, start())?.length)
 }
