@@ -1,19 +1,14 @@
 -- What the code's answers say, in the definition's terms.
-use Rattle.std.specs.Prelude.{ℕ, ℤ, from_bits}
+use Rattle.std.specs.Prelude as rust
+use Rattle.std.specs.Prelude.{ℕ, from_bits}
 use Rattle.std.proofs.Math.Option.{Option, none, some}
 use Rattle.std.specs.Float.{binary64}
 use Rattle.definition.specs.Values.{Value, integer, float, text, other, wrapped}
-use Rattle.numbers.specs.declared.Found.{Found}
-use Rattle.numbers.specs.declared.Found.TheVariants.{Integer, Nothing}
-use Rattle.numbers.specs.declared.Number.{Number}
 
-abbrev pub integer_found : Found → Option ℤ
-integer_found (Integer z) = some z
-integer_found Nothing = none
-
-abbrev pub bits_found : Number → Option ℕ
-bits_found (Number.Bits b) = some b
-bits_found Number.Nothing = none
+-- what the code finds, or nothing
+abbrev pub found : {A : Type 0} → rust.Option A → Option A
+found (rust.Some a) = some a
+found rust.None = none
 
 -- what T writes of a float that has no integer
 abbrev pub wrapped_float : Value → Option ℕ

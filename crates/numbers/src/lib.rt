@@ -7,24 +7,11 @@ ghost use Rattle.std.specs.Float.{binary64};
 ghost use Rattle.std.specs.Float.Ieee.{of_int, rem, fin};
 ghost use Rattle.definition.specs.Values as definition;
 ghost use Rattle.values.specs.Meaning.{meaning, Proper};
-ghost use Rattle.numbers.specs.Meaning.{integer_found, bits_found, wrapped_float};
+ghost use Rattle.numbers.specs.Meaning.{found, wrapped_float};
 
 use single::nearest;
+use values::Value;
 use words::extent;
-
-// An integer, or none.
-#[derive(Clone, Copy)]
-pub enum Found {
-    Integer(i64),
-    Nothing,
-}
-
-// A number by its 64 bits, or none.
-#[derive(Clone, Copy)]
-pub enum Number {
-    Bits(u64),
-    Nothing,
-}
 
 const TWO_64: f64 = 18446744073709551616.0;
 
@@ -52,41 +39,41 @@ const EXPONENT_OF_LAST: u64 = 1023 + 52;
 const EXPONENT_OF_INFINITY: u64 = 2047;
 
 // A whole number with a sign, where that is an integer of 64 bits.
-fn with_sign(negative: bool, whole: u64) -> Found
+fn with_sign(negative: bool, whole: u64) -> Option<i64>
     requires { 0 < whole }
-    ensures { integer_found result ≡ definition.integer_where true (definition.with_sign negative whole) }
+    ensures { found result ≡ definition.integer_where true (definition.with_sign negative whole) }
 {
     if negative {
         if whole <= SIGN {
-            return Found::Integer(-1 - (whole - 1) as i64);
+            return Some(-1 - (whole - 1) as i64);
         }
-        return Found::Nothing;
+        return None;
     }
     if whole < SIGN {
-        return Found::Integer(whole as i64);
+        return Some(whole as i64);
     }
-    Found::Nothing
+    None
 }
 
 // The integer that a float equals, by the float's bits.
-fn integer_of(bits: u64) -> Found
-    ensures { integer_found result ≡ definition.as_integer (definition.float bits) }
+fn integer_of(bits: u64) -> Option<i64>
+    ensures { found result ≡ definition.as_integer (definition.float bits) }
 {
     let exponent = bits % SIGN / LEADING;
     if exponent < EXPONENT_OF_1 {
         if bits % SIGN == 0 {
-            return Found::Integer(0);
+            return Some(0);
         }
-        return Found::Nothing;
+        return None;
     }
     if exponent > EXPONENT_OF_TOP {
-        return Found::Nothing;
+        return None;
     }
     let significand = SIGN + bits % LEADING * EXTRA;
     let shift = EXPONENT_OF_TOP - exponent;
     let whole = significand >> shift;
     if whole << shift != significand {
-        return Found::Nothing;
+        return None;
     }
     with_sign(bits >= SIGN, whole)
 }
@@ -98,7 +85,7 @@ fn rounded(n: u64) -> u64
     if n == 0 {
         return 0;
     }
-    let zeros = u64::leading_zeros(n) as u64;
+    let zeros = u64::from(n.leading_zeros());
     // The significand's leading bit adds one to the exponent.
     (EXPONENT_OF_TOP - 1 - zeros) * LEADING + nearest(n << zeros, EXTRA_BITS)
 }
@@ -165,43 +152,43 @@ pub fn wrapped(x: f64) -> u64
 }
 
 // The integer of a value: an integer itself, a float that equals one, otherwise none.
-pub fn as_integer(v: values::Value) -> Found
+pub fn as_integer(v: Value) -> Option<i64>
     requires { Proper v }
-    ensures { (l : List ℕ) → integer_found result ≡ definition.as_integer (meaning l v) }
+    ensures { (l : List ℕ) → found result ≡ definition.as_integer (meaning l v) }
 {
     match v {
-        values::Value::Integer(n) => Found::Integer(n),
-        values::Value::Float(x) => integer_of(f64::to_bits(x)),
-        values::Value::NotANumber(_) => Found::Nothing,
-        values::Value::Text(_, _) => Found::Nothing,
-        values::Value::Other => Found::Nothing,
+        Value::Integer(n) => Some(n),
+        Value::Float(x) => integer_of(x.to_bits()),
+        Value::NotANumber(_) => None,
+        Value::Text(_, _) => None,
+        Value::Other => None,
     }
 }
 
 // The number of a value: a float itself, an integer rounded to one, otherwise none.
-pub fn as_number(v: values::Value) -> Number
+pub fn as_number(v: Value) -> Option<u64>
     requires { Proper v }
-    ensures { (l : List ℕ) → bits_found result ≡ definition.as_number (meaning l v) }
+    ensures { (l : List ℕ) → found result ≡ definition.as_number (meaning l v) }
 {
     match v {
-        values::Value::Integer(n) => Number::Bits(bits_of(n)),
-        values::Value::Float(x) => Number::Bits(f64::to_bits(x)),
-        values::Value::NotANumber(b) => Number::Bits(b),
-        values::Value::Text(_, _) => Number::Nothing,
-        values::Value::Other => Number::Nothing,
+        Value::Integer(n) => Some(bits_of(n)),
+        Value::Float(x) => Some(x.to_bits()),
+        Value::NotANumber(b) => Some(b),
+        Value::Text(_, _) => None,
+        Value::Other => None,
     }
 }
 
 // What T writes of a float that has no integer.
-pub fn as_wrapped(v: values::Value) -> Number
+pub fn as_wrapped(v: Value) -> Option<u64>
     requires { Proper v }
-    ensures { (l : List ℕ) → bits_found result ≡ wrapped_float (meaning l v) }
+    ensures { (l : List ℕ) → found result ≡ wrapped_float (meaning l v) }
 {
     match v {
-        values::Value::Integer(_) => Number::Nothing,
-        values::Value::Float(x) => Number::Bits(wrapped(x)),
-        values::Value::NotANumber(_) => Number::Bits(0),
-        values::Value::Text(_, _) => Number::Nothing,
-        values::Value::Other => Number::Nothing,
+        Value::Integer(_) => None,
+        Value::Float(x) => Some(wrapped(x)),
+        Value::NotANumber(_) => Some(0),
+        Value::Text(_, _) => None,
+        Value::Other => None,
     }
 }

@@ -6,36 +6,29 @@ ghost use Rattle.definition.specs.Trays.{lists};
 ghost use Rattle.values.specs.Meaning.{is_accepted};
 ghost use Rattle.runs.specs.Entries.{EntryRead};
 
+use definition::Refusal;
 use load::get_word;
-
-// What stands at an offset of a run: its end; a length that does not fit; or a list, from its first byte to behind its last.
-#[derive(Clone, Copy)]
-pub enum Entry {
-    End,
-    Malformed,
-    List(usize, usize),
-}
 
 // How many bytes stand before a list, which say its length.
 const LENGTH: usize = 2;
 
-// The list at an offset of a run.
-pub fn list_at(run: &[u8], at: usize) -> Entry
+// The list at an offset of a run, from its first byte to behind its last. None at the run's end.
+pub fn list_at(run: &[u8], at: usize) -> Result<Option<(usize, usize)>, Refusal>
     requires { at ≤ length run.now }
     ensures { EntryRead run.now at result }
 {
     let left = run.len() - at;
     if left == 0 {
-        return Entry::End;
+        return Ok(None);
     }
     if left < LENGTH {
-        return Entry::Malformed;
+        return Err(Refusal::DamagedRun);
     }
     let n = get_word(run, at, LENGTH, true) as usize;
     if left - LENGTH < n {
-        return Entry::Malformed;
+        return Err(Refusal::DamagedRun);
     }
-    Entry::List(at + LENGTH, at + LENGTH + n)
+    Ok(Some((at + LENGTH, at + LENGTH + n)))
 }
 
 // Whether the lengths of a run end at its last byte, from an offset on.
@@ -44,11 +37,11 @@ pub fn is_run(run: &[u8], from: usize) -> bool
     ensures { result ≡ is_accepted (lists (drop from run.now)) }
 {
     let mut at = from;
-    loop {
-        match list_at(run, at) {
-            Entry::End => return true,
-            Entry::Malformed => return false,
-            Entry::List(_, next) => at = next,
-        }
+    while let Ok(entry) = list_at(run, at) {
+        let Some((_, next)) = entry else {
+            return true;
+        };
+        at = next;
     }
+    false
 }
