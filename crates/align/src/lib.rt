@@ -7,23 +7,10 @@ ghost use Rattle.definition.specs.Reading.{offset_in, at_offset};
 ghost use Rattle.definition.specs.Ops.{is_power};
 ghost use Rattle.definition.specs.Calls.{at_most_63};
 ghost use Rattle.laws.proofs.Ops.{Limited};
-ghost use Rattle.align.specs.Amounts.{amount_of, state_of, SameTo63};
+ghost use Rattle.definition.specs.Refusals.{answer_of};
+ghost use Rattle.align.specs.Amounts.{SameTo63};
 
-use definition::{Field, Offset, Setting, State};
-
-// A number of bytes, or the number of a refusal.
-#[derive(Clone, Copy)]
-pub enum Amount {
-    Refused(u8),
-    Bytes(u64),
-}
-
-// The state after an item, or the number of a refusal.
-#[derive(Clone, Copy)]
-pub enum Next {
-    Refused(u8),
-    State(State),
-}
+use definition::{Field, Offset, Refusal, Setting, State};
 
 // The greatest length.
 pub const MAX_LENGTH: u64 = 0x7fff_ffff_ffff_ffff;
@@ -34,7 +21,7 @@ pub fn sum(total: u64, n: u64) -> u64
     requires { n ≤ 2 ^ 63 - 1 }
     ensures { (m : ℕ) → SameTo63 total m → SameTo63 result (m + n) }
 {
-    let more = std::num::wrapping_add_u64(total, n);
+    let more = total.wrapping_add(n);
     if more < n { total } else { more }
 }
 
@@ -92,18 +79,12 @@ pub fn further(s: State, n: u64) -> State
     state(s.big, s.limit, s.length + n)
 }
 
-fn lesser(a: u64, b: u64) -> u64
-    ensures { result ≡ min a b }
-{
-    if a < b { a } else { b }
-}
-
 // Whether n is a power of two of 1 to 16: one that has no bit in common with n - 1.
 #[tactic(auto, using(crate::proofs::Powers::power_mask, crate::proofs::Powers::power_none))]
 pub fn is_power(n: u64) -> bool
     ensures { result ≡ is_power n }
 {
-    let mask = std::num::wrapping_sub_u64(n, 1);
+    let mask = n.wrapping_sub(1);
     if mask < 16 { n & mask == 0 } else { false }
 }
 
@@ -129,15 +110,22 @@ pub fn natural(f: Field) -> u64
     }
 }
 
-// The lesser of a natural alignment and the limit, or 6.
-pub fn alignment(s: State, natural: u64) -> Amount
-    ensures { amount_of result ≡ states.alignment s natural }
+// The lesser of a natural alignment and the limit.
+fn limited(s: State, natural: u64) -> u64
+    ensures { result ≡ min natural s.limit }
 {
-    let a = lesser(natural, s.limit);
+    natural.min(s.limit)
+}
+
+// The lesser of a natural alignment and the limit, unless it is no power of two.
+pub fn alignment(s: State, natural: u64) -> Result<u64, Refusal>
+    ensures { answer_of result ≡ states.alignment s natural }
+{
+    let a = limited(s, natural);
     if is_power(a) {
-        Amount::Bytes(a)
+        Ok(a)
     } else {
-        Amount::Refused(6)
+        Err(Refusal::AlignmentNoPower)
     }
 }
 
@@ -151,35 +139,35 @@ fn fill(a: u64, n: u64) -> u64
     if r == 0 { 0 } else { a - r }
 }
 
-// The zeros that bring the state to a natural alignment, or 6. Of what doesn't align no remainder is worked out. No limit is
-// above 16, so the bits of an alignment alone tell whether it is a power of two.
+// The zeros that bring the state to a natural alignment, unless the lesser of it and the limit is no power of two. Of what
+// doesn't align no remainder is worked out. No limit is above 16, so the bits of an alignment alone tell whether it is a power.
 #[tactic(auto, using(crate::proofs::Powers::unaligned))]
-pub fn padding(s: State, natural: u64) -> Amount
+pub fn padding(s: State, natural: u64) -> Result<u64, Refusal>
     requires limited { Limited s }
     requires positive { 1 ≤ natural }
-    ensures { amount_of result ≡ states.padding s natural }
+    ensures { answer_of result ≡ states.padding s natural }
 {
-    let a = lesser(natural, s.limit);
+    let a = limited(s, natural);
     if a < 2 {
-        return Amount::Bytes(0);
+        return Ok(0);
     }
     if a & (a - 1) == 0 {
-        return Amount::Bytes(fill(a, s.length));
+        return Ok(fill(a, s.length));
     }
-    Amount::Refused(6)
+    Err(Refusal::AlignmentNoPower)
 }
 
-// The state n bytes on, or 9.
-pub fn longer(s: State, n: u64) -> Next
-    ensures { state_of result ≡ states.longer s n }
+// The state n bytes on, unless its length is above the greatest.
+pub fn longer(s: State, n: u64) -> Result<State, Refusal>
+    ensures { answer_of result ≡ states.longer s n }
 {
     if MAX_LENGTH < n {
-        return Next::Refused(9);
+        return Err(Refusal::LengthTooLarge);
     }
     if MAX_LENGTH - n < s.length {
-        return Next::Refused(9);
+        return Err(Refusal::LengthTooLarge);
     }
-    Next::State(further(s, n))
+    Ok(further(s, n))
 }
 
 // Whether n bytes more leave the length at most 2^63-1.

@@ -9,32 +9,11 @@ ghost use Rattle.load.specs.Numbers.{unsigned_of, unsigned_at, signed_of, signed
 
 use words::{place, sign_byte, to_signed};
 
-// An integer that is not negative, or that it doesn't fit 64 bits.
-#[derive(Clone, Copy)]
-pub enum Unsigned {
-    Fits(u64),
-    TooWide,
-}
-
-// An integer, or that it doesn't fit 64 bits.
-#[derive(Clone, Copy)]
-pub enum Signed {
-    Fits(i64),
-    TooWide,
-}
-
-// A byte as a number.
-fn wide(x: u8) -> u64
-    ensures { result ≡ x }
-{
-    x as u64
-}
-
 // Of size bytes, those that hold bits.
 fn low(size: usize) -> usize
     ensures { result ≡ low size }
 {
-    if size < 8 { size } else { 8 }
+    size.min(8)
 }
 
 // The number that the low bytes write, byte by byte.
@@ -42,13 +21,10 @@ fn get_bytes(data: &[u8], at: usize, size: usize, big: bool) -> u64
     requires { at + size ≤ length «data».now }
     ensures { (result ≡ total (low_bytes big size (drop at «data».now))) × (result < 256 ^ low size) }
 {
-    let n = low(size);
     let mut word: u64 = 0;
-    let mut k = 0;
-    while k < n {
+    for k in 0..low(size) {
         let b = data[at + place(big, size, k)];
-        word += wide(b) << (8 * k);
-        k += 1;
+        word += u64::from(b) << (8 * k);
     }
     word
 }
@@ -83,7 +59,7 @@ fn restored(size: usize, word: u64) -> i64
     if size < 8 {
         let count: u64 = 1 << (8 * size);
         let half = count / 2;
-        to_signed(std::num::wrapping_sub_u64((word + half) % count, half))
+        to_signed(((word + half) % count).wrapping_sub(half))
     } else {
         to_signed(word)
     }
@@ -94,37 +70,30 @@ fn is_filled(data: &[u8], at: usize, size: usize, big: bool, fill: u8) -> bool
     requires { at + size ≤ length «data».now }
     ensures { result ≡ all fill (high_bytes big size (drop at «data».now)) }
 {
-    let mut k = 8;
-    while k < size {
-        if data[at + place(big, size, k)] != fill {
-            return false;
-        }
-        k += 1;
-    }
-    true
+    (8..size).all(|k| data[at + place(big, size, k)] == fill)
 }
 
-// An integer of size bytes that is not negative.
-pub fn get_unsigned(data: &[u8], at: usize, size: usize, big: bool) -> Unsigned
+// An integer of size bytes that is not negative; none where it doesn't fit 64 bits.
+pub fn get_unsigned(data: &[u8], at: usize, size: usize, big: bool) -> Option<u64>
     requires { at + size ≤ length «data».now }
     ensures { unsigned_of result ≡ unsigned_at big size (drop at «data».now) }
 {
     if is_filled(data, at, size, big, 0) {
-        Unsigned::Fits(get_word(data, at, size, big))
+        Some(get_word(data, at, size, big))
     } else {
-        Unsigned::TooWide
+        None
     }
 }
 
-// An integer of size bytes.
-pub fn get_signed(data: &[u8], at: usize, size: usize, big: bool) -> Signed
+// An integer of size bytes; none where it doesn't fit 64 bits.
+pub fn get_signed(data: &[u8], at: usize, size: usize, big: bool) -> Option<i64>
     requires { at + size ≤ length «data».now }
     ensures { signed_of result ≡ signed_at big size (drop at «data».now) }
 {
     let x = restored(size, get_word(data, at, size, big));
     if is_filled(data, at, size, big, sign_byte(x)) {
-        Signed::Fits(x)
+        Some(x)
     } else {
-        Signed::TooWide
+        None
     }
 }

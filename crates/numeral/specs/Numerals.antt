@@ -1,9 +1,10 @@
 -- What the readers of a numeral answer.
-use Rattle.std.specs.Prelude.{ℕ, ◌+◌, ◌*◌, ◌-◌, ◌^◌, Bool, true, false, cond, List, [], ◌∷◌, ltb, eqb, length}
+use Rattle.std.specs.Prelude.{ℕ, ◌+◌, ◌*◌, ◌-◌, ◌^◌, Bool, true, false, cond, List, [], ◌∷◌, ltb, eqb, length, Option, Some, None, Result, Ok, Err}
 use Prim.Native.Char.{code}
-use Rattle.definition.specs.Items.{is_digit, value, Numeral}
-use Rattle.numeral.specs.declared.Digit.{Digit}
-use Rattle.numeral.specs.declared.Scan.{Scan}
+use Rattle.definition.specs.Items.{is_digit, value}
+use Rattle.definition.specs.Items as items
+use Rattle.definition.specs.declared.Refusal.{Refusal}
+use Rattle.numeral.specs.declared.Numeral.{Numeral}
 use Rattle.numeral.specs.declared.Short.{Short}
 
 -- s begins with a digit
@@ -12,28 +13,32 @@ digit_first [] = false
 digit_first (b ∷ s) = is_digit b
 
 -- the number m that a digit made
-abbrev pub grown : ℕ → Digit
-grown m = cond (ltb m (2 ^ 64)) (Digit.More m) Digit.TooLarge
+abbrev pub grown : ℕ → Result (Option ℕ) Refusal
+grown m = cond (ltb m (2 ^ 64)) (Ok (Some m)) (Err Refusal.NumeralTooLarge)
 
 -- the first digit of s, after those that made n
-unfoldable pub digit_on : ℕ → List ℕ → Digit
-digit_on n [] = Digit.Stop
-digit_on n (b ∷ s) = cond (is_digit b) (grown (n * 10 + (b - code "0"))) Digit.Stop
+unfoldable pub digit_on : ℕ → List ℕ → Result (Option ℕ) Refusal
+digit_on n [] = Ok None
+digit_on n (b ∷ s) = cond (is_digit b) (grown (n * 10 + (b - code "0"))) (Ok None)
+
+-- a numeral's value, and the place after its digits
+abbrev pub numeral : ℕ → ℕ → Numeral
+numeral v i = record { value = v; end = i }
 
 -- the digits ds at a place, after those that made n
-unfoldable pub read_on : ℕ → ℕ → List ℕ → Scan
-read_on n at ds = cond (ltb (value n ds) (2 ^ 64)) (Scan.Value (value n ds) (at + length ds)) Scan.TooLarge
+unfoldable pub read_on : ℕ → ℕ → List ℕ → Result Numeral Refusal
+read_on n at ds = cond (ltb (value n ds) (2 ^ 64)) (Ok (numeral (value n ds) (at + length ds))) (Err Refusal.NumeralTooLarge)
 
--- whether a number fits, the number, and the place after its digits
-abbrev pub scan_by : Bool → ℕ → ℕ → Scan
-scan_by true n at = Scan.Value n at
-scan_by false n at = Scan.TooLarge
+-- the number and the place that are reached, unless the number is refused
+abbrev pub reached : {A : Type 0} → Result A Refusal → ℕ → ℕ → Result Numeral Refusal
+reached (Ok u) n at = Ok (numeral n at)
+reached (Err r) n at = Err r
 
 -- a numeral, and the place after its digits
-abbrev pub scanned : Numeral → ℕ → Scan
-scanned Numeral.Missing i = Scan.Missing
-scanned Numeral.TooLarge i = Scan.TooLarge
-scanned (Numeral.Value v) i = Scan.Value v i
+abbrev pub read_of : items.Numeral → ℕ → Result (Option Numeral) Refusal
+read_of items.Numeral.Missing i = Ok None
+read_of items.Numeral.TooLarge i = Err Refusal.NumeralTooLarge
+read_of (items.Numeral.Value v) i = Ok (Some (numeral v i))
 
 -- what the digits ds show at once
 abbrev pub short_of : List ℕ → Short

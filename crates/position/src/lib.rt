@@ -3,36 +3,29 @@
 
 ghost use Rattle.std.specs.Prelude.{◌≡◌, ◌+◌, ◌-◌, ◌≤◌, ◌<◌, ◌^◌};
 ghost use Rattle.definition.specs.Reading.{offset_of, position_of};
-ghost use Rattle.position.specs.Starts.{started_of};
+ghost use Rattle.definition.specs.Refusals.{answer_of};
 
-use definition::{Offset, Position};
+use definition::{Offset, Position, Refusal};
 use words::extent;
 
-// What a start position gives: the offset, unless it lies outside the data.
-#[derive(Clone, Copy)]
-pub enum Started {
-    At(Offset),
-    Outside,
-}
-
 // The offset of a start in data of so many bytes: 1..length+1 from the front, -length..-1 from the end.
-pub fn offset_of(start: i64, length: usize) -> Started
-    ensures { started_of result ≡ offset_of start length }
+pub fn offset_of(start: i64, length: usize) -> Result<Offset, Refusal>
+    ensures { answer_of result ≡ offset_of start length }
 {
     let n = extent(start);
     let len = length as u64;
     if start < 0 {
         if n < len {
-            Started::At(Offset(len - n - 1))
+            Ok(Offset(len - n - 1))
         } else {
-            Started::Outside
+            Err(Refusal::StartOutside)
         }
     } else if n == 0 {
-        Started::Outside
+        Err(Refusal::StartOutside)
     } else if n - 1 <= len {
-        Started::At(Offset(n - 1))
+        Ok(Offset(n - 1))
     } else {
-        Started::Outside
+        Err(Refusal::StartOutside)
     }
 }
 

@@ -1,7 +1,7 @@
 // Writes into a lent buffer.
 #![tactic(auto)]
 
-ghost use Rattle.std.specs.Prelude.{◌≡◌, ◌+◌, ◌≤◌, length, take, drop, replicate};
+ghost use Rattle.std.specs.Prelude.{◌≡◌, ◌+◌, ◌≤◌, length, replicate};
 ghost use Rattle.std.proofs.Math.Seq.{paste};
 ghost use Rattle.definition.specs.Bytes.{laid};
 ghost use Rattle.words.specs.Digits.{byte_of};
@@ -25,11 +25,8 @@ fn put_bytes(out: &mut [u8], at: usize, size: usize, big: bool, word: u64, fill:
     requires { at + size ≤ length out.old }
     ensures { out.new ≡ paste out.old at (laid big size word fill) size }
 {
-    let mut j = 0;
-    while j < size {
-        let b = byte_of(word, fill, place(big, size, j));
-        out[at + j] = b;
-        j += 1;
+    for j in 0..size {
+        out[at + j] = byte_of(word, fill, place(big, size, j));
     }
 }
 
@@ -60,21 +57,13 @@ pub fn put_zeros(out: &mut [u8], at: usize, n: usize)
     requires { at + n ≤ length out.old }
     ensures { out.new ≡ paste out.old at (replicate n 0) n }
 {
-    let mut j = 0;
-    while j < n {
-        out[at + j] = 0;
-        j += 1;
-    }
+    out[at..at + n].fill(0);
 }
 
-// Writes n bytes of a source, from `start` on, at `at`.
-pub fn put_copy(out: &mut [u8], at: usize, source: &[u8], start: usize, n: usize)
-    requires { (at + n ≤ length out.old) × (start + n ≤ length source.now) }
-    ensures { out.new ≡ paste out.old at (take n (drop start source.now)) n }
+// Writes a text at `at`.
+pub fn put_copy(out: &mut [u8], at: usize, text: &[u8])
+    requires { at + length text.now ≤ length out.old }
+    ensures { out.new ≡ paste out.old at text.now (length text.now) }
 {
-    let mut j = 0;
-    while j < n {
-        out[at + j] = source[start + j];
-        j += 1;
-    }
+    out[at..at + text.len()].copy_from_slice(text);
 }

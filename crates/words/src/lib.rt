@@ -17,11 +17,7 @@ pub fn to_word(x: i64) -> u64
     ensures { result ≡ bits x }
 {
     let n = extent(x);
-    if x < 0 {
-        std::num::wrapping_sub_u64(0, n + 1)
-    } else {
-        n
-    }
+    if x < 0 { 0u64.wrapping_sub(n + 1) } else { n }
 }
 
 // The integer of 64 bits: a negative one by a wrapping subtract.
@@ -31,7 +27,7 @@ pub fn to_signed(word: u64) -> i64
     if word < 9223372036854775808 {
         word as i64
     } else {
-        let n = std::num::wrapping_sub_u64(0, word) - 1;
+        let n = 0u64.wrapping_sub(word) - 1;
         -1 - n as i64
     }
 }
