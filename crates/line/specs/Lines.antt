@@ -1,4 +1,4 @@
--- When the answer to an input is settled, and the parts of what is printed for it.
+-- When the answer to an input is settled.
 use Rattle.std.specs.Prelude.{ℕ, ◌≡◌, Bool, true, cond, List, ◌++◌, leb, ltb, length}
 use Rattle.definition.specs.Answers.{Checked, ◌>>◌, require}
 use Rattle.definition.specs.Bytes.{bytes}
@@ -16,7 +16,3 @@ Stands s = (more : List ℕ) → printed (s ++ more) ≡ printed s
 -- the answer to an input
 abbrev pub answer_to : List ℕ → Checked ℕ
 answer_to s = require (leb (length (first_line s)) 4096) 22 >> string_packsize (first_line s)
-
--- a label, a number and the line's end
-abbrev pub number_line : List ℕ → ℕ → List ℕ
-number_line label n = label ++ (decimal n ++ bytes "\n")

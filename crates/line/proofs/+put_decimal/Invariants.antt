@@ -1,5 +1,0 @@
--- The digits of n / 10 come first, and n / 10 is less than n.
-use Rattle.line.proofs.+put_decimal.Given as goal
-
-abbrev pub decreases-put_decimal : goal.decreases-put_decimal
-decreases-put_decimal l = l.n
