@@ -4,35 +4,35 @@ use mathlib.Core.Path.{◌≡◌, sym, ap, ◌∙◌}
 use native.Mathlib.Omega.{arith}
 use lib.IntN.{pos}
 use mir.Facts.{to_z-of_z}
+use Rattle.std.specs.Prelude.{Ok}
+use Rattle.std.proofs.lemmas.Result.{err_from_is_err_and}
 use Rattle.definition.specs.Answers.{◌>>=◌}
+use Rattle.definition.specs.Refusals.{answer_of}
 use Rattle.calendar.specs.Calendar.{months_on, end_before, in_two_bytes, date_of, last_day}
 use Rattle.calendar.proofs.Dates.{Valid}
 use Rattle.calendar.proofs.Existence.{months_26}
 use Rattle.calendar.specs.declared.Date.{Date}
-use Rattle.dates.specs.declared.Dated.TheVariants as Dated
-use Rattle.dates.specs.Answers.{dated_of}
 use Rattle.dates.proofs.Signs.{from_bound, months_below, by_first}
 use Rattle.dates.proofs.Passing.{first_valid, later}
 use borrow.Author.Rules.{rules}
 use Rattle.dates.proofs.last_day.Goals as goal
 use Rattle.dates.proofs.last_day.Goals.{After-date_of, After-extent-k}
 
-months : (c : After-extent-k) → (c.before.before.args.months ≡ pos c.extent-k.result) × (1 ≤ c.extent-k.result)
-months c = from_bound _ 1 _ c.before.before.ranges.months (search rules) c.extent-k.ensures
+months : (c : After-extent-k) → (c.args.months ≡ pos c.extent-k.result) × (1 ≤ c.extent-k.result)
+months c = from_bound _ 1 _ c.ranges.months (search rules) c.extent-k.ensures
 
 -- the months are 1 to 12: what the first day decides
-decided : (c : After-date_of) → last_day c.before.before.before.before.args.first c.before.before.before.before.args.months
-    ≡ (dated_of c.date_of.result >>= λ d. in_two_bytes (end_before (months_on c.before.before.extent-k.result d)))
+decided : (c : After-date_of) → last_day c.args.first c.args.months
+    ≡ (answer_of c.date_of.result >>= λ d. in_two_bytes (end_before (months_on c.extent-k.result d)))
 decided c =
     let m = months c.before.before in
-    let q = c.date_of.ensures ∙ ap date_of (to_z-of_z c.before.before.before.before.ranges.first) in
+    let q = c.date_of.ensures ∙ ap date_of (to_z-of_z c.ranges.first) in
     rw (m.0, q) (by_first _ _ m.1 (omega arith))
 
 -- the first day's date
-first : (c : After-date_of) (d : Date) → c.date_of.result ≡ Dated.Date d → Valid d × (d.year ≤ 2179)
+first : (c : After-date_of) (d : Date) → c.date_of.result ≡ Ok d → Valid d × (d.year ≤ 2179)
 first c d e =
-    let s = c.before.before.before.before in
-    first_valid _ _ (sym (ap date_of (to_z-of_z s.ranges.first)) ∙ sym c.date_of.ensures ∙ ap dated_of e)
+    first_valid _ _ (sym (ap date_of (to_z-of_z c.ranges.first)) ∙ sym c.date_of.ensures ∙ ap answer_of e)
 
 pub returns-then-months-lt1 : goal.returns-then-months-lt1
 returns-then-months-lt1 c =
@@ -44,18 +44,19 @@ returns-then-k-gt12 c =
 
 pub months_on-requires : goal.months_on-requires
 months_on-requires c =
-    let v = first (goal.at.months_on-requires c).After-date_of _ c.in-Date.is in (v.0.from, v.0.to, v.1, omega arith)
+    let v = first (goal.at.months_on-requires c).After-date_of _ c.in_ok-date.was in (v.0.from, v.0.to, v.1, omega arith)
 
 pub end_before-requires : goal.end_before-requires
 end_before-requires c =
-    let v = first (goal.at.end_before-requires c).After-date_of _ c.in-Date.is in
+    let v = first (goal.at.end_before-requires c).After-date_of _ c.in_ok-date.was in
     let m = months (goal.at.end_before-requires c).After-extent-k in
     rw c.months_on.ensures (later _ _ v.0 v.1 m.1 (omega arith))
 
-pub returns-in-Refused : goal.returns-in-Refused
-returns-in-Refused c =
-    sym (rw c.in-Refused.is at (decided (goal.at.returns-in-Refused c).After-date_of))
+pub returns-in_err-date : goal.returns-in_err-date
+returns-in_err-date c =
+    let p = err_from_is_err_and c.from_residual.result c.from_residual.ensures.1 in
+    rw (p.1, p.2) (sym (rw c.in_err-date.was at (decided (goal.at.returns-in_err-date c).After-date_of)))
 
-pub returns-in-Date : goal.returns-in-Date
-returns-in-Date c =
-    c.in_two_bytes.ensures ∙ ap in_two_bytes (c.end_before.ensures ∙ ap end_before c.months_on.ensures) ∙ sym (rw c.in-Date.is at (decided (goal.at.returns-in-Date c).After-date_of))
+pub returns : goal.returns
+returns c =
+    c.in_two_bytes.ensures ∙ ap in_two_bytes (c.end_before.ensures ∙ ap end_before c.months_on.ensures) ∙ sym (rw c.in_ok-date.was at (decided (goal.at.returns c).After-date_of))

@@ -3,36 +3,31 @@ use Prim.Native.Nat.{◌<◌, ◌-◌, ◌+◌}
 use mathlib.Core.Path.{◌≡◌, sym}
 use native.Mathlib.Omega.{arith}
 use borrow.Author.Tests.{lt-ltb, le-ltb}
-use Rattle.calendar.specs.Calendar.{date, is_leap, days_before}
-use Rattle.calendar.proofs.Dates.{Valid, valid}
+use Rattle.calendar.specs.Calendar.{is_leap, days_before}
+use Rattle.calendar.proofs.Dates.{valid}
 use Rattle.dates.specs.Fourth.{no_day}
 use Rattle.dates.proofs.Counting.{counted_to, Stands, year_stands, at_most_31, small}
 use Rattle.dates.proofs.number.Goals as goal
-use Rattle.dates.proofs.number.Goals.{After-days_before_month, Start}
-
--- the date, by what is required
-given : (s : Start) → Valid (date s.args.year s.args.month s.args.day)
-given s = valid _ s.requires.0 s.requires.1
+use Rattle.dates.proofs.number.Goals.{After-days_before_month}
 
 -- the count
-counted : (c : After-days_before_month) → counted_to (c.before.before.args.year - 2000) c.before.before.args.month c.before.before.args.day
-    ≡ c.before.days_before_year.result + c.days_before_month.result + (c.before.before.args.day - 1)
-counted c = rw (c.before.days_before_year.ensures, c.days_before_month.ensures)
+counted : (c : After-days_before_month) → counted_to (c.args.d.year - 2000) c.args.d.month c.args.d.day
+    ≡ c.days_before_year.result + c.days_before_month.result + (c.args.d.day - 1)
+counted c = rw (c.days_before_year.ensures, c.days_before_month.ensures)
 
-bounded : (c : After-days_before_month) → counted_to (c.before.before.args.year - 2000) c.before.before.args.month c.before.before.args.day < 131072
+bounded : (c : After-days_before_month) → counted_to (c.args.d.year - 2000) c.args.d.month c.args.d.day < 131072
 bounded c =
-    let s = c.before.before in
-    let v = given s in
-    let l = at_most_31 (is_leap s.args.year) s.args.month v.from v.to in
-    small _ _ _ (omega (arith, s.requires.2)) v.to (omega (arith, l, v.within))
+    let v = valid _ c.requires.0 c.requires.1 in
+    let l = at_most_31 (is_leap c.args.d.year) c.args.d.month v.from v.to in
+    small _ _ _ (omega (arith, c.requires.2)) v.to (omega (arith, l, v.within))
 
-stands_for : (c : After-days_before_month) → Stands (c.before.days_before_year.result + c.days_before_month.result + (c.before.before.args.day - 1))
-    (days_before (date c.before.before.args.year c.before.before.args.month c.before.before.args.day))
-stands_for c = let p = c.before.before.requires in rw (← counted c) (year_stands _ _ _ p.0 p.1 p.2)
+stands_for : (c : After-days_before_month) → Stands (c.days_before_year.result + c.days_before_month.result + (c.args.d.day - 1))
+    (days_before c.args.d)
+stands_for c = let p = c.requires in rw (← counted c) (year_stands _ _ _ p.0 p.1 p.2)
 
 pub days_before_month-requires : goal.days_before_month-requires
 days_before_month-requires c =
-    let v = given (goal.at.days_before_month-requires c).Start in (v.from, v.to)
+    let v = valid _ c.requires.0 c.requires.1 in (v.from, v.to)
 
 pub overflow_add-n : goal.overflow_add-n
 overflow_add-n c =
@@ -40,7 +35,7 @@ overflow_add-n c =
 
 pub overflow_sub-n : goal.overflow_sub-n
 overflow_sub-n c =
-    (given (goal.at.overflow_sub-n c).Start).day
+    (valid _ c.requires.0 c.requires.1).day
 
 pub overflow_add-n-2 : goal.overflow_add-n-2
 overflow_add-n-2 c =

@@ -1,13 +1,13 @@
 -- `number_of` meets its contract: the tests are the definition's, but that no year after 2179 has a day that fits.
 use mathlib.Core.Path.{◌≡◌, sym, ap, ◌∙◌}
 use mathlib.Core.Bool.{true}
-use Rattle.calendar.specs.Calendar.{date, is_date, in_two_bytes}
+use Rattle.calendar.specs.Calendar.{is_date, in_two_bytes}
 use Rattle.calendar.proofs.Calls.{number_is}
 use Rattle.calendar.proofs.Existence.{no_date}
 use Rattle.dates.proofs.number_of.Goals as goal
 use Rattle.dates.proofs.number_of.Goals.{Else-not-is_date}
 
-there : (c : Else-not-is_date) → is_date (date c.before.before.args.year c.before.before.args.month c.before.before.args.day) ≡ true
+there : (c : Else-not-is_date) → is_date c.before.before.args.d ≡ true
 there c = sym c.before.is_date.ensures ∙ c.if-not-is_date.false
 
 pub returns-then-not-is_date : goal.returns-then-not-is_date
