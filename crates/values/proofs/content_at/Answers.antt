@@ -3,10 +3,10 @@ use Rattle.std.proofs.Common.{sym, ◌∙◌}
 use Rattle.values.proofs.Contents.{cut_short, by_suits}
 use Rattle.values.proofs.content_at.Goals as goal
 
-pub returns-in_default : goal.returns-in_default
-returns-in_default c = cut_short c.args.list.now c.args.at c.requires c.in_default.ensures
+pub returns-in_err-n : goal.returns-in_err-n
+returns-in_err-n c = rw c.from_residual.ensures (cut_short c.args.list.now c.args.at c.requires c.in_err-n.ensures)
 
-pub returns : goal.returns
-returns c =
+pub returns-else-length_suits : goal.returns-else-length_suits
+returns-else-length_suits c =
     let a = c.args in
-    rw (sym c.length_suits.ensures ∙ c.if-length_suits.false) at (by_suits a.list.now a.at c.in-Length.n c.in-Length.ensures)
+    rw (sym c.length_suits.ensures ∙ c.if-length_suits.false) at (by_suits a.list.now a.at c.in_ok-n.n c.in_ok-n.ensures)

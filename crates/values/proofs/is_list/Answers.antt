@@ -10,14 +10,14 @@ pub loop-at-preserved : goal.loop-at-preserved
 loop-at-preserved c =
     let l = c.args.list.now in
     let i = c.loop-at in
-    let h = c.in-Length.ensures in
-    let f = rw h.tag at (by_suits l i.at c.in-Length.n h.complete) in
-    sym (accepted_beginning f.0 (values (drop (i.at + 3 + c.in-Length.n) l))) ∙ ap is_accepted (sym (values_by l i.at f.1)) ∙ i.invariant
+    let h = c.in-Some.ensures in
+    let f = rw h.tag at (by_suits l i.at c.in-Some.n h.complete) in
+    sym (accepted_beginning f.0 (values (drop (i.at + 3 + c.in-Some.n) l))) ∙ ap is_accepted (sym (values_by l i.at f.1)) ∙ i.invariant
 
-pub returns-in-Malformed : goal.returns-in-Malformed
-returns-in-Malformed c =
+pub returns-in_default : goal.returns-in_default
+returns-in_default c =
     let i = c.loop-at in
-    ap is_accepted (sym (values_by c.args.list.now i.at c.in-Malformed.ensures)) ∙ i.invariant
+    ap is_accepted (sym (values_by c.args.list.now i.at c.in_default.ensures)) ∙ i.invariant
 
 pub returns : goal.returns
 unfolding values_past
