@@ -44,15 +44,10 @@ fn with_sign(negative: bool, whole: u64) -> Option<i64>
     ensures { found result ≡ definition.integer_where true (definition.with_sign negative whole) }
 {
     if negative {
-        if whole <= SIGN {
-            return Some(-1 - (whole - 1) as i64);
-        }
-        return None;
+        i64::try_from(whole - 1).ok().map(|n| -1 - n)
+    } else {
+        i64::try_from(whole).ok()
     }
-    if whole < SIGN {
-        return Some(whole as i64);
-    }
-    None
 }
 
 // The integer that a float equals, by the float's bits.
@@ -159,9 +154,7 @@ pub fn as_integer(v: Value) -> Option<i64>
     match v {
         Value::Integer(n) => Some(n),
         Value::Float(x) => integer_of(x.to_bits()),
-        Value::NotANumber(_) => None,
-        Value::Text(_, _) => None,
-        Value::Other => None,
+        Value::NotANumber(_) | Value::Text(_, _) | Value::Other => None,
     }
 }
 
@@ -174,8 +167,7 @@ pub fn as_number(v: Value) -> Option<u64>
         Value::Integer(n) => Some(bits_of(n)),
         Value::Float(x) => Some(x.to_bits()),
         Value::NotANumber(b) => Some(b),
-        Value::Text(_, _) => None,
-        Value::Other => None,
+        Value::Text(_, _) | Value::Other => None,
     }
 }
 
@@ -185,10 +177,8 @@ pub fn as_wrapped(v: Value) -> Option<u64>
     ensures { (l : List ℕ) → found result ≡ wrapped_float (meaning l v) }
 {
     match v {
-        Value::Integer(_) => None,
         Value::Float(x) => Some(wrapped(x)),
         Value::NotANumber(_) => Some(0),
-        Value::Text(_, _) => None,
-        Value::Other => None,
+        Value::Integer(_) | Value::Text(_, _) | Value::Other => None,
     }
 }

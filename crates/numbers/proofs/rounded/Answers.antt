@@ -13,4 +13,4 @@ returns c =
     let n = c.args.n in
     let positive : 0 < n = omega (arith, c.if-n-eq0.false) in
     let top : n * 2 ^ count_leading_zeros 64 n % 2 ^ 64 ≡ n * 2 ^ count_leading_zeros 64 n = mod-eq_of_lt (topped n positive c.ranges.n.fits).fits in
-    rw (rw top at c.nearest.ensures) (bits_whole n positive c.ranges.n.fits)
+    rw (c.from-zeros.ensures, rw (c.from-zeros.ensures, top) at c.nearest.ensures) (bits_whole n positive c.ranges.n.fits)

@@ -6,8 +6,8 @@ use Rattle.definition.specs.Trays.{lists}
 use Rattle.values.specs.Meaning.{is_accepted}
 use Rattle.runs.proofs.is_run.Given as goal
 
-abbrev pub invariant-loop-next : goal.invariant-loop-next
-invariant-loop-next l = (l.at ≤ length l.run) × (is_accepted (lists (drop l.at l.run)) ≡ is_accepted (lists (drop l.from l.run)))
+abbrev pub invariant-loop-entry : goal.invariant-loop-entry
+invariant-loop-entry l = (l.at ≤ length l.run) × (is_accepted (lists (drop l.at l.run)) ≡ is_accepted (lists (drop l.from l.run)))
 
-abbrev pub decreases-loop-next : goal.decreases-loop-next
-decreases-loop-next l = length l.run - l.at
+abbrev pub decreases-loop-entry : goal.decreases-loop-entry
+decreases-loop-entry l = length l.run - l.at
