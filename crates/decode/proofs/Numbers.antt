@@ -8,6 +8,7 @@ use mathlib.Core.List.{List}
 use lib.IntN.{ℤ}
 use lib.ListN.{length, drop, length-drop}
 use borrow.Author.Tests.{lt-leb}
+use Rattle.std.specs.Prelude.{Result, Ok, Err}
 use Rattle.single.specs.Single.{from_single}
 use Rattle.definition.specs.Answers.{Checked, refused, accepted, ◌>>=◌}
 use Rattle.definition.specs.Bytes.{total, signed}
@@ -17,6 +18,8 @@ use Rattle.definition.specs.declared.Kind.{Kind}
 use Rattle.definition.specs.declared.Kind.TheVariants.{SmallSigned, SmallUnsigned, Signed, Unsigned, LuaInteger, LuaUnsigned, Size, Single, Double}
 use Rattle.definition.specs.declared.Offset.{Offset}
 use Rattle.definition.specs.declared.Field.{Field}
+use Rattle.definition.specs.declared.Refusal.{Refusal}
+use Rattle.definition.specs.Refusals.{refusal_number}
 use Rattle.words.specs.Digits.{low_bytes}
 use Rattle.load.specs.Numbers.{unsigned_at, signed_at}
 use Rattle.laws.proofs.Bytes.{number_is}
@@ -47,37 +50,37 @@ as_integer c = c >>= λ w. accepted (integer (signed 8 w))
 
 -- at an offset of the data d, n bytes, in the byte order o
 module _ (d : List ℕ) (at : Offset) (o : Bool) (n : ℕ) where
-  pub number_short : (k : Kind) → length d - at.0 < n → Decodes d at o (Field.Number k n) (Decoded.Refused 17)
+  pub number_short : (k : Kind) → length d - at.0 < n → Decodes d at o (Field.Number k n) (Err Refusal.DataEnd)
   unfolding decode number
   number_short k h = record { says = rw (first_short n at.0 d h); inside = tt }
 
-  pub number_refused : (k : Kind) {j : ℕ} → refused j ≡ number_at o k n (from d at) → Decodes d at o (Field.Number k n) (Decoded.Refused j)
+  pub number_refused : (k : Kind) {r : Refusal} → refused (refusal_number r) ≡ number_at o k n (from d at) → Decodes d at o (Field.Number k n) (Err r)
   number_refused k e = record { says = rw (decode_number o k n (from d at), ← e); inside = tt }
 
   number_read : (k : Kind) (v : Value) (r : Reading) → at.0 + n ≤ length d → accepted v ≡ number_at o k n (from d at)
-      → value_of d r ≡ v → Inside d r → Decodes d at o (Field.Number k n) (Decoded.Read r n)
+      → value_of d r ≡ v → Inside d r → Decodes d at o (Field.Number k n) (Ok (record { reading = r; size = n }))
   number_read k v r h e f i = record { says = rw (decode_number o k n (from d at), ← e, f); inside = (i, h) }
 
   pub signed_read : {y z : ℤ} → y ≡ z → at.0 + n ≤ length d → accepted (integer z) ≡ signed_at o n (from d at)
-      → Decodes d at o (Field.Number Signed n) (Decoded.Read (Integer y) n)
+      → Decodes d at o (Field.Number Signed n) (Ok (record { reading = Integer y; size = n }))
   signed_read q h e = number_read Signed _ (Integer _) h e (ap integer q) tt
 
   unsigned_value_lem : as_integer (unsigned_at o n (from d at)) ≡ number_at o Unsigned n (from d at)
   unsigned_value_lem = bind_bind (number o n (from d at)) (λ r. unsigned r.0 r.1) (λ w. accepted (integer (signed 8 w)))
 
-  pub unsigned_wide : refused 18 ≡ unsigned_at o n (from d at) → Decodes d at o (Field.Number Unsigned n) (Decoded.Refused 18)
+  pub unsigned_wide : refused 18 ≡ unsigned_at o n (from d at) → Decodes d at o (Field.Number Unsigned n) (Err Refusal.IntegerTooWide)
   unsigned_wide e = number_refused Unsigned (ap as_integer e ∙ unsigned_value_lem)
 
   pub unsigned_read : {y : ℤ} (w : ℕ) → y ≡ signed 8 w → at.0 + n ≤ length d → accepted w ≡ unsigned_at o n (from d at)
-      → Decodes d at o (Field.Number Unsigned n) (Decoded.Read (Integer y) n)
+      → Decodes d at o (Field.Number Unsigned n) (Ok (record { reading = Integer y; size = n }))
   unsigned_read w q h e = number_read Unsigned (integer (signed 8 w)) (Integer _) h (ap as_integer e ∙ unsigned_value_lem) (ap integer q) tt
 
   pub single_read : {b u : ℕ} → b ≡ from_single u → u ≡ total (low_bytes o n (from d at)) → at.0 + n ≤ length d
-      → Decodes d at o (Field.Number Single n) (Decoded.Read (Float b) n)
+      → Decodes d at o (Field.Number Single n) (Ok (record { reading = Float b; size = n }))
   single_read {b} {u} q e h = number_read Single (float (from_single u)) (Float b) h (rw (number_is o n at.0 d h, e)) (rw q) tt
 
   pub double_read : {b : ℕ} → b ≡ total (low_bytes o n (from d at)) → at.0 + n ≤ length d
-      → Decodes d at o (Field.Number Double n) (Decoded.Read (Float b) n)
+      → Decodes d at o (Field.Number Double n) (Ok (record { reading = Float b; size = n }))
   double_read {b} e h = number_read Double (float b) (Float b) h (rw (number_is o n at.0 d h, e)) refl tt
 
 -- ---- by the kind
@@ -102,5 +105,5 @@ unsigned_kind (inr (inr (inl e))) = λ o n s. rw e refl
 unsigned_kind (inr (inr (inr e))) = λ o n s. rw e refl
 
 -- what one kind reads, another reads that is read alike
-pub alike : {d : List ℕ} {at : Offset} {o : Bool} {n : ℕ} {k j : Kind} {r : Decoded} → Alike j k → Decodes d at o (Field.Number j n) r → Decodes d at o (Field.Number k n) r
+pub alike : {d : List ℕ} {at : Offset} {o : Bool} {n : ℕ} {k j : Kind} {r : Result Decoded Refusal} → Alike j k → Decodes d at o (Field.Number j n) r → Decodes d at o (Field.Number k n) r
 alike {d} {at} {o} {n} a p = record { says = p.says ∙ a o n (from d at); inside = p.inside }

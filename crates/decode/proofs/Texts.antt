@@ -1,24 +1,26 @@
 -- What a text reads is what the definition decodes.
-use Prim.Native.Nat.{ℕ, ◌+◌, ◌-◌, ◌≤◌, ◌<◌}
-use native.Mathlib.Numerals.{add-one}
+use Prim.Native.Nat.{ℕ, suc, ◌+◌, ◌-◌, ◌≤◌, ◌<◌}
 use native.Mathlib.Omega.{arith}
 use mathlib.Core.Path.{◌≡◌, refl, sym, ap, ◌∙◌}
-use mathlib.Core.Bool.{Bool}
-use mathlib.Core.List.{List, [], ◌∷◌, ◌++◌, append-nil, append_assoc}
-use lib.ListN.{length, take, drop, get_or, length-drop, drop_of_length-le}
-use lib.Seq.{length-take-le, take-suc, drop-cons, drop-drop, get_or-drop}
-use borrow.Author.Tests.{le-leb, lt-leb, lt-ltb, le-ltb, eq-eqb, ne_eqb}
+use mathlib.Core.Bool.{Bool, true, false, cond}
+use mathlib.Core.List.{List, [], ◌∷◌}
+use lib.Dec.{eqb}
+use lib.ListN.{length, take, drop, length-drop}
+use lib.Seq.{length-take-le, drop-drop}
+use borrow.Author.Tests.{le-leb, lt-leb}
+use Rattle.std.specs.Prelude.{Option, Some, None, Result, Ok, Err, nat_lt, ◌==◌, position}
+use Rattle.std.specs.List.{position_or_len}
+use Rattle.std.proofs.lemmas.List.Quantifiers.{position-Some}
 use Rattle.definition.specs.Answers.{Checked, refused, accepted, ◌>>=◌}
 use Rattle.definition.specs.Values.{Value, text}
 use Rattle.definition.specs.Fields.{first, short, up_to_zero, number, unsigned, decode}
-use Rattle.definition.specs.Reading.{offset}
 use Rattle.definition.specs.declared.Offset.{Offset}
+use Rattle.definition.specs.declared.Refusal.{Refusal}
 use Rattle.definition.specs.declared.Field.TheVariants as Field
 use Rattle.load.specs.Numbers.{unsigned_at}
-use Rattle.decode.specs.Readings.{from, Within, Decodes, ZeroFrom}
-use Rattle.decode.specs.declared.Reading.{Reading}
+use Rattle.decode.specs.Readings.{from, Decodes}
 use Rattle.decode.specs.declared.Reading.TheVariants.{Text}
-use Rattle.decode.specs.declared.Decoded.TheVariants as Decoded
+use Rattle.decode.specs.declared.Decoded.{Decoded}
 use Rattle.decode.proofs.Numbers.{bind_bind, first_short}
 
 -- the n bytes at an offset
@@ -37,107 +39,60 @@ module _ (n at : ℕ) (d : List ℕ) (h : at + n ≤ length d) where
 
 -- ---- c
 module _ (d : List ℕ) (at : Offset) (n : ℕ) (o : Bool) where
-  pub chars_short : length d - at.0 < n → Decodes d at o (Field.Chars n) (Decoded.Refused 17)
+  pub chars_short : length d - at.0 < n → Decodes d at o (Field.Chars n) (Err Refusal.DataEnd)
   unfolding decode
   chars_short h = record { says = rw (first_short n at.0 d h); inside = tt }
 
-  pub chars_long : at.0 + n ≤ length d → 65535 < n → Decodes d at o (Field.Chars n) (Decoded.Refused 20)
+  pub chars_long : at.0 + n ≤ length d → 65535 < n → Decodes d at o (Field.Chars n) (Err Refusal.TextAbove65535)
   unfolding decode
   chars_long h l = record { says = rw (first_is n at.0 d h, long_is n at.0 d h l); inside = tt }
 
-  pub chars_read : at.0 + n ≤ length d → n ≤ 65535 → Decodes d at o (Field.Chars n) (Decoded.Read (Text at n) n)
+  pub chars_read : at.0 + n ≤ length d → n ≤ 65535 → Decodes d at o (Field.Chars n) (Ok (record { reading = Text at n; size = n }))
   unfolding decode
   chars_read h l = record { says = rw (first_is n at.0 d h, short_is n at.0 d h l); inside = ((h, l), h) }
 
 -- ---- z
 
--- the bytes before a zero, with t before them
-abbrev before : List ℕ → Checked (List ℕ) → Checked (List ℕ)
-before t c = c >>= λ u. accepted (t ++ u)
+abbrev is_zero : ℕ → Bool
+is_zero b = b == 0
 
-before_before : (t u : List ℕ) (c : Checked (List ℕ)) → before t (before u c) ≡ before (t ++ u) c
-before_before t u (refused k) = refl
-before_before t u (accepted s) = ap accepted (sym (append_assoc t u s))
+-- the bytes before the first zero, by its index
+abbrev up_to : List ℕ → Option ℕ → Checked (List ℕ)
+up_to s None = refused 19
+up_to s (Some n) = accepted (take n s)
 
-before_none : (c : Checked (List ℕ)) → before [] c ≡ c
-before_none (refused k) = refl
-before_none (accepted s) = refl
+zero_is : (s : List ℕ) → up_to_zero s ≡ up_to s (position is_zero s)
+zero_is [] = refl
+zero_is (b ∷ s) = go (eqb b 0) (nat_lt (position_or_len is_zero s) (length s)) (zero_is s)
+  where
+    go : (z h : Bool) → up_to_zero s ≡ up_to s (cond h (Some (position_or_len is_zero s)) None)
+        → cond z (accepted []) (up_to_zero s >>= λ t. accepted (b ∷ t)) ≡ up_to (b ∷ s) (cond z (Some 0) (cond h (Some (suc (position_or_len is_zero s))) None))
+    go true h q = refl
+    go false true q = rw q refl
+    go false false q = rw q refl
 
--- no zero stands from `at` on and before the index i
-pub record NoZero (d : List ℕ) (at : Offset) (i : ℕ) : Type 0 where
-  pub same : up_to_zero (from d at) ≡ before (take (i - at.0) (from d at)) (up_to_zero (drop i d))
-  pub behind : at.0 ≤ i
-  pub within : i ≤ length d
-
-pub no_zero_yet : (d : List ℕ) (at : Offset) → Within d at → NoZero d at at.0
-no_zero_yet d at h =
-    let e : at.0 - at.0 ≡ 0 = omega arith in
-    record { same = rw e (sym (before_none (up_to_zero (from d at)))); behind = omega arith; within = h }
-
-module _ {d : List ℕ} {at : Offset} {i : ℕ} (z : NoZero d at i) where
-  -- what stands before i
-  abbrev front : List ℕ
-  front = take (i - at.0) (from d at)
-
-  next : i < length d → take (i + 1 - at.0) (from d at) ≡ front ++ (get_or d i 0 ∷ [])
-  next h =
-      let e : i + 1 - at.0 ≡ (i - at.0) + 1 = omega arith in
-      let f : at.0 + (i - at.0) ≡ i = omega arith in
-      let l : i - at.0 < length (from d at) = omega (arith, length-drop at.0 d) in
-      rw (e, add-one (i - at.0), take-suc (from d at) (i - at.0) 0 l, get_or-drop at.0 d (i - at.0) 0, f)
-
-  other_byte : i < length d → (get_or d i 0 ≡ 0 → ⊥) → up_to_zero (drop i d) ≡ before (get_or d i 0 ∷ []) (up_to_zero (drop (i + 1) d))
-  other_byte h ne = rw (add-one i, drop-cons d i 0 h, ne_eqb (get_or d i 0) 0 ne)
-
-  pub no_zero_more : i < length d → (get_or d i 0 ≡ 0 → ⊥) → NoZero d at (i + 1)
-  no_zero_more h ne = record {
-    same = z.same
-        ∙ ap (before front) (other_byte h ne)
-        ∙ before_before front (get_or d i 0 ∷ []) (up_to_zero (drop (i + 1) d))
-        ∙ ap (λ (u : List ℕ). before u (up_to_zero (drop (i + 1) d))) (sym (next h));
-    behind = omega arith;
-    within = omega arith;
-  }
-
-  pub zero_here : i < length d → get_or d i 0 ≡ 0 → ZeroFrom d at (offset i)
-  zero_here h e = record {
-    says = z.same
-        ∙ ap (λ (s : List ℕ). before front (up_to_zero s)) (drop-cons d i 0 h)
-        ∙ rw (eq-eqb (get_or d i 0) 0 e, append-nil front, lt-ltb i (length d) h);
-    behind = z.behind;
-    within = z.within;
-  }
-
-  pub zero_nowhere : length d ≤ i → ZeroFrom d at (offset i)
-  zero_nowhere h = record {
-    says = z.same ∙ rw (drop_of_length-le d {i = i} h, le-ltb i (length d) h);
-    behind = z.behind;
-    within = z.within;
-  }
-
-module _ {d : List ℕ} {at r : Offset} (z : ZeroFrom d at r) (o : Bool) where
-  pub zero_missing : length d - r.0 ≡ 0 → Decodes d at o Field.ZeroEnded (Decoded.Refused 19)
+module _ (d : List ℕ) (at : Offset) (o : Bool) where
+  pub zero_missing : position is_zero (from d at) ≡ None → Decodes d at o Field.ZeroEnded (Err Refusal.MissingZero)
   unfolding decode
-  zero_missing e = record { says = rw (z.says, le-ltb r.0 (length d) (omega arith)); inside = tt }
+  zero_missing e = record { says = rw (zero_is (from d at), e); inside = tt }
 
   -- the bytes before the zero
-  module _ (h : (length d - r.0 ≡ 0) → ⊥) (n : ℕ) (is : n ≡ r.0 - at.0) where
-    inside_of : at.0 + n ≤ length d
-    inside_of = omega (arith, z.behind, z.within)
+  module _ (n : ℕ) (e : position is_zero (from d at) ≡ Some n) where
+    below : at.0 + n + 1 ≤ length d
+    below = omega (arith, (position-Some is_zero (from d at) n 0 e).0, length-drop at.0 d)
 
     before_zero : up_to_zero (from d at) ≡ accepted (take n (from d at))
-    before_zero = z.says ∙ rw (lt-ltb r.0 (length d) (omega (arith, z.within, h)), is)
+    before_zero = zero_is (from d at) ∙ ap (up_to (from d at)) e
 
-    pub zero_long : 65535 < n → Decodes d at o Field.ZeroEnded (Decoded.Refused 20)
+    pub zero_long : 65535 < n → Decodes d at o Field.ZeroEnded (Err Refusal.TextAbove65535)
     unfolding decode
-    zero_long l = record { says = rw (before_zero, long_is n at.0 d inside_of l); inside = tt }
+    zero_long l = record { says = rw (before_zero, long_is n at.0 d (omega (arith, below)) l); inside = tt }
 
-    pub zero_read : n ≤ 65535 → Decodes d at o Field.ZeroEnded (Decoded.Read (Text at n) (n + 1))
+    pub zero_read : n ≤ 65535 → Decodes d at o Field.ZeroEnded (Ok (record { reading = Text at n; size = n + 1 }))
     unfolding decode
-    zero_read l = record {
-      says = rw (before_zero, short_is n at.0 d inside_of l, part_length n at.0 d inside_of);
-      inside = ((inside_of, l), omega (arith, z.behind, z.within, h));
-    }
+    zero_read l =
+        let h : at.0 + n ≤ length d = omega (arith, below) in
+        record { says = rw (before_zero, short_is n at.0 d h l, part_length n at.0 d h); inside = ((h, l), omega (arith, below)) }
 
 -- ---- s: a length of n bytes, and the text of k bytes behind it
 
@@ -158,7 +113,7 @@ counting_more n k (accepted t) = go (short t)
     go (accepted u) = refl
 
 module _ (d : List ℕ) (at : Offset) (o : Bool) (n : ℕ) where
-  pub counted_short : length d - at.0 < n → Decodes d at o (Field.Counted n) (Decoded.Refused 17)
+  pub counted_short : length d - at.0 < n → Decodes d at o (Field.Counted n) (Err Refusal.DataEnd)
   unfolding decode number
   counted_short h = record { says = rw (first_short n at.0 d h); inside = tt }
 
@@ -166,7 +121,7 @@ module _ (d : List ℕ) (at : Offset) (o : Bool) (n : ℕ) where
   unfolding decode
   decode_counted = sym (bind_bind (number o n (from d at)) (λ r. unsigned r.0 r.1) (λ k. counting (n + k) (first k (drop n (from d at)))))
 
-  pub counted_wide : refused 18 ≡ unsigned_at o n (from d at) → Decodes d at o (Field.Counted n) (Decoded.Refused 18)
+  pub counted_wide : refused 18 ≡ unsigned_at o n (from d at) → Decodes d at o (Field.Counted n) (Err Refusal.IntegerTooWide)
   counted_wide e = record { says = rw (decode_counted, ← e); inside = tt }
 
   -- the text stands at the offset t
@@ -175,8 +130,8 @@ module _ (d : List ℕ) (at : Offset) (o : Bool) (n : ℕ) where
     unfolding decode
     behind = rw (decode_counted, ← e, q, drop-drop n at.0 d) (sym (counting_more n k (first k (drop (at.0 + n) d))))
 
-    pub counted_refused : {j : ℕ} → Decodes d t o (Field.Chars k) (Decoded.Refused j) → Decodes d at o (Field.Counted n) (Decoded.Refused j)
+    pub counted_refused : {r : Refusal} → Decodes d t o (Field.Chars k) (Err r) → Decodes d at o (Field.Counted n) (Err r)
     counted_refused p = record { says = ap (more n) p.says ∙ behind; inside = tt }
 
-    pub counted_read : {r : Reading} {m : ℕ} → Decodes d t o (Field.Chars k) (Decoded.Read r m) → Decodes d at o (Field.Counted n) (Decoded.Read r (n + m))
+    pub counted_read : {x : Decoded} → Decodes d t o (Field.Chars k) (Ok x) → Decodes d at o (Field.Counted n) (Ok (record { reading = x.reading; size = n + x.size }))
     counted_read p = record { says = ap (more n) p.says ∙ behind; inside = (p.inside.0, omega (arith, p.inside.1)) }

@@ -1,6 +1,5 @@
 -- What a field's bytes give, in the definition's terms.
-use Rattle.std.specs.Prelude.{ℕ, ◌+◌, ◌<◌, ◌≤◌, ◌≡◌, Bool, true, false, List, length, take, drop, Option, Some, None, Result, IfOk}
-use Rattle.definition.specs.Answers.{refused, accepted}
+use Rattle.std.specs.Prelude.{ℕ, ◌+◌, ◌≤◌, ◌≡◌, Bool, true, false, List, length, take, drop, Result, IfOk}
 use Rattle.definition.specs.Refusals.{answer_by}
 use Rattle.definition.specs.Values.{Value, integer, float, text}
 use Rattle.definition.specs.Fields.{up_to_zero, decode}
@@ -50,8 +49,3 @@ decoded_in d x = (value_of d x.reading, x.size)
 pub record Decodes (d : List ℕ) (at : Offset) (big : Bool) (f : Field) (r : Result Decoded Refusal) : Type 0 where
   pub says : answer_by (decoded_in d) r ≡ decode big f (from d at)
   pub inside : IfOk r (λ x. Inside d x.reading × (at.0 + x.size ≤ length d))
-
--- r is how many bytes of s stand before its first zero
-abbrev pub BeforeZero : List ℕ → Option ℕ → Type 0
-BeforeZero s (Some n) = (up_to_zero s ≡ accepted (take n s)) × (n < length s)
-BeforeZero s None = up_to_zero s ≡ refused 19

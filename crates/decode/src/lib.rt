@@ -1,11 +1,11 @@
 // The value of a field's bytes: 17, then 18 or 19, then 20.
 #![tactic(auto)]
 
-ghost use Rattle.std.specs.Prelude.{Bool, ◌+◌, ◌≤◌, T, length};
+ghost use Rattle.std.specs.Prelude.{◌≡◌, Bool, ◌==◌, ◌+◌, ◌≤◌, T, length, position};
 ghost use Rattle.definition.specs.declared.Field.TheVariants as field;
 ghost use Rattle.definition.specs.declared.Kind.TheVariants as kind;
 ghost use Rattle.laws.proofs.Numbers.{valid_size};
-ghost use Rattle.decode.specs.Readings.{from, Within, Decodes, BeforeZero};
+ghost use Rattle.decode.specs.Readings.{Within, Decodes};
 
 use definition::{Kind, Offset, Refusal};
 use load::{get_signed, get_unsigned, get_word};
@@ -117,15 +117,11 @@ pub fn text(data: &[u8], at: Offset, n: u64) -> Result<Decoded, Refusal>
     })
 }
 
-// How many bytes stand before the first zero from `at` on.
-fn before_zero(data: &[u8], at: Offset) -> Option<u64>
-    requires { Within «data».now at }
-    ensures { BeforeZero (from «data».now at) result }
+// The index of the first zero.
+fn first_zero(bytes: &[u8]) -> Option<usize>
+    ensures { result ≡ position (λ b. b == 0) bytes.now }
 {
-    data[at.0 as usize..]
-        .iter()
-        .position(|b| *b == 0)
-        .map(|n| n as u64)
+    bytes.iter().position(|b| *b == 0)
 }
 
 // z
@@ -133,7 +129,7 @@ pub fn zero_ended(data: &[u8], at: Offset) -> Result<Decoded, Refusal>
     requires { Within «data».now at }
     ensures { (o : Bool) → Decodes «data».now at o field.ZeroEnded result }
 {
-    let n = before_zero(data, at).ok_or(Refusal::MissingZero)?;
+    let n = first_zero(&data[at.0 as usize..]).ok_or(Refusal::MissingZero)? as u64;
     if MAX_TEXT < n {
         return Err(Refusal::TextAbove65535);
     }

@@ -21,9 +21,9 @@ pub float_field : (b : ℕ) → 2 ∷ big 2 8 ++ big 8 b ≡ list_of (float b �
 unfolding list_of
 float_field b = rw (length_big 8 b, append-nil (big 8 b))
 
-text_field : (s : List ℕ) (n : ℕ) → length s ≡ n → 3 ∷ big 2 n ++ s ≡ list_of (text s ∷ [])
+text_field : (s : List ℕ) → 3 ∷ big 2 (length s) ++ s ≡ list_of (text s ∷ [])
 unfolding list_of
-text_field s n e = rw (e, append-nil s)
+text_field s = rw (append-nil s)
 
 -- ---- the stores, in the code's order
 module _ (d f : List ℕ) (at : ℕ) where
@@ -36,8 +36,9 @@ module _ (d f : List ℕ) (at : ℕ) where
   eight_stored e t w h p q = q ∙ rw p (paste_before d (t ∷ big 2 8) (big 8 w) at 3 8 (ap suc (length_big 2 8)) (length_big 8 w) h)
 
   -- the head, then the text
-  pub text_stored : (e s : List ℕ) (n : ℕ) → length s ≡ n → at + 3 + n ≤ length d → e ≡ paste d at (3 ∷ big 2 n) 3 → f ≡ paste e (at + 3) s n → f ≡ paste d at (list_of (text s ∷ [])) (3 + n)
-  text_stored e s n l h p q =
+  pub text_stored : (e s : List ℕ) → at + 3 + length s ≤ length d → e ≡ paste d at (3 ∷ big 2 (length s)) 3 → f ≡ paste e (at + 3) s (length s)
+      → f ≡ paste d at (list_of (text s ∷ [])) (3 + length s)
+  text_stored e s h p q =
       q
-      ∙ rw p (paste_on d (3 ∷ big 2 n) s at 3 n (ap suc (length_big 2 n)) l (omega arith))
-      ∙ ap (λ (x : List ℕ). paste d at x (3 + n)) (text_field s n l)
+      ∙ rw p (paste_on d (3 ∷ big 2 (length s)) s at 3 (length s) (ap suc (length_big 2 (length s))) refl (omega arith))
+      ∙ ap (λ (x : List ℕ). paste d at x (3 + length s)) (text_field s)
