@@ -4,45 +4,88 @@
 
 ghost use Rattle.std.specs.Prelude.{◌≡◌};
 ghost use Rattle.definition.specs.Answers.{accepted};
+ghost use Rattle.definition.specs.Refusals.{answer_of};
 ghost use Rattle.definition.specs.Lists.{offset_after};
 ghost use Rattle.definition.specs.Calls.{string_packsize, list_bound, string_pack, pack_continued, string_unpack};
 ghost use Rattle.definition.specs.Trays.{pack_tray};
 ghost use Rattle.lengths.specs.Lengths.{packsize_range};
 ghost use Rattle.calendar.specs.Calendar.{day_number, date_of, last_day};
-ghost use Rattle.dates.specs.Answers.{day_of};
-ghost use Rattle.measure.specs.Measured.{measured_of};
 ghost use Rattle.digribbon.specs.Answers.{told, told_with, told_at, word, continued_words, unpacked_words, date_words, range_words, state_of};
 
 use align::state;
 use bound::list_bound;
-use dates::{Dated, Day, date_of, day_number, last_day};
-use measure::{Measured, string_packsize};
-use range::{Ranged, packsize_range};
-use read::{Unpacking, string_unpack};
-use tray::{Tray, pack_tray};
+use calendar::Date;
+use dates::{date_of, day_number, last_day};
+use definition::{Continued, Refusal, Unpacked};
+use lengths::Range;
+use measure::string_packsize;
+use range::packsize_range;
+use read::string_unpack;
+use tray::pack_tray;
 use values::fields_after;
-use write::{Packed, pack_continued, string_pack};
-use write_pass::Total;
+use write::{pack_continued, string_pack};
 
-// A size in the answer, or a refusal's number.
-fn tell_size(m: Measured, answer: &mut [u64; 1]) -> u64
-    ensures { (result, answer.new) ≡ told word answer.old (measured_of m) }
+// ---- the words of an answer
+
+fn word(n: u64) -> [u64; 1]
+    ensures { result ≡ word n }
 {
-    match m {
-        Measured::Refused(k) => k as u64,
-        Measured::Size(size) => {
-            *answer = [size];
+    [n]
+}
+
+fn continued_words(c: Continued) -> [u64; 6]
+    ensures { result ≡ continued_words c }
+{
+    let s = c.next;
+    [
+        u64::from(s.big),
+        s.limit,
+        s.length,
+        c.written,
+        c.used,
+        c.items,
+    ]
+}
+
+fn unpacked_words(u: Unpacked) -> [u64; 2]
+    ensures { result ≡ unpacked_words u }
+{
+    [u.length, u.next.0]
+}
+
+fn range_words(r: Range) -> [u64; 2]
+    ensures { result ≡ range_words r }
+{
+    [r.least, r.greatest]
+}
+
+fn date_words(d: Date) -> [u64; 3]
+    ensures { result ≡ date_words d }
+{
+    [d.year, d.month, d.day]
+}
+
+// The words of what is accepted in the answer, or a refusal's number.
+fn tell<const N: usize>(given: Result<[u64; N], Refusal>, answer: &mut [u64; N]) -> u64
+    ensures { (result, answer.new) ≡ told (λ words. words) answer.old (answer_of given.entry) }
+{
+    match given {
+        Ok(words) => {
+            *answer = words;
             0
         }
+        Err(refusal) => u64::from(refusal.number()),
     }
 }
+
+// ---- the calls
 
 // Measuring.
 #[unsafe(no_mangle)]
 pub extern "C" fn digribbon_packsize(format: &[u8], answer: &mut [u64; 1]) -> u64
     ensures { (result, answer.new) ≡ told word answer.old (string_packsize format.now) }
 {
-    tell_size(string_packsize(format), answer)
+    tell(string_packsize(format).map(word), answer)
 }
 
 // The list bound.
@@ -54,7 +97,7 @@ pub extern "C" fn digribbon_list_bound(
 ) -> u64
     ensures { (result, answer.new) ≡ told word answer.old (list_bound format.now data_length) }
 {
-    tell_size(list_bound(format, data_length), answer)
+    tell(list_bound(format, data_length).map(word), answer)
 }
 
 // The least and the greatest record length.
@@ -66,13 +109,7 @@ pub extern "C" fn digribbon_packsize_range(
 ) -> u64
     ensures { (result, answer.new) ≡ told range_words answer.old (packsize_range format.now pairs.now) }
 {
-    match packsize_range(format, pairs) {
-        Ranged::Refused(k) => k as u64,
-        Ranged::Range(r) => {
-            *answer = [r.least, r.greatest];
-            0
-        }
-    }
+    tell(packsize_range(format, pairs).map(range_words), answer)
 }
 
 // Writing.
@@ -85,13 +122,7 @@ pub extern "C" fn digribbon_pack(
 ) -> u64
     ensures { ((result, answer.new), «record».new) ≡ told_with word answer.old (string_pack format.now list.now «record».old) }
 {
-    match string_pack(format, list, record) {
-        Packed::Refused(k) => k as u64,
-        Packed::Length(length) => {
-            *answer = [length];
-            0
-        }
-    }
+    tell(string_pack(format, list, record).map(word), answer)
 }
 
 // Continued writing, from a state given by its three numbers.
@@ -107,14 +138,9 @@ pub extern "C" fn digribbon_pack_continued(
 ) -> u64
     ensures { ((result, answer.new), «record».new) ≡ told_with continued_words answer.old (pack_continued (state_of order limit length) format.now list.now «record».old) }
 {
-    match pack_continued(state(order != 0, limit, length), format, list, record) {
-        Total::Refused(k) => k as u64,
-        Total::Of(c) => {
-            let s = c.next;
-            *answer = [s.big as u64, s.limit, s.length, c.written, c.used, c.items];
-            0
-        }
-    }
+    let from = state(order != 0, limit, length);
+    let continued = pack_continued(from, format, list, record);
+    tell(continued.map(continued_words), answer)
 }
 
 // Reading.
@@ -128,14 +154,8 @@ pub extern "C" fn digribbon_unpack(
 ) -> u64
     ensures { ((result, answer.new), list.new) ≡ told_with unpacked_words answer.old (string_unpack format.now «data».now start list.old) }
 {
-    match string_unpack(format, data, start, list) {
-        Unpacking::Refused(k) => k as u64,
-        Unpacking::Unpacked(u) => {
-            let p = u.next;
-            *answer = [u.length, p.0];
-            0
-        }
-    }
+    let unpacked = string_unpack(format, data, start, list);
+    tell(unpacked.map(unpacked_words), answer)
 }
 
 // A tray, with the place of the record that is refused.
@@ -150,14 +170,13 @@ pub extern "C" fn digribbon_pack_tray(
     ensures { (((result, answer.new), tray.new), place.new) ≡ told_at answer.old (pack_tray format.now run.now tray.old) }
 {
     match pack_tray(format, run, tray) {
-        Tray::Refused(k, p) => {
-            *place = [p];
-            k as u64
-        }
-        Tray::Length(n) => {
+        Ok(length) => {
             *place = [0];
-            *answer = [n];
-            0
+            tell(Ok([length]), answer)
+        }
+        Err(refused) => {
+            *place = [refused.place];
+            tell(Err(refused.refusal), answer)
         }
     }
 }
@@ -167,21 +186,7 @@ pub extern "C" fn digribbon_pack_tray(
 pub extern "C" fn digribbon_list_after(list: &[u8], fields: u64, answer: &mut [u64; 1]) -> u64
     ensures { (result, answer.new) ≡ told word answer.old (accepted (offset_after fields list.now)) }
 {
-    *answer = [fields_after(list, fields) as u64];
-    0
-}
-
-// A day number in the answer, or a refusal's number.
-fn tell_day(d: Day, answer: &mut [u64; 1]) -> u64
-    ensures { (result, answer.new) ≡ told word answer.old (day_of d) }
-{
-    match d {
-        Day::Refused(k) => k as u64,
-        Day::Number(day) => {
-            *answer = [day];
-            0
-        }
-    }
+    tell(Ok([fields_after(list, fields) as u64]), answer)
 }
 
 // The day number of a date.
@@ -194,7 +199,7 @@ pub extern "C" fn digribbon_day_number(
 ) -> u64
     ensures { (result, answer.new) ≡ told word answer.old (day_number year month day) }
 {
-    tell_day(day_number(year, month, day), answer)
+    tell(day_number(year, month, day).map(word), answer)
 }
 
 // The date of a day number: its year, month and day.
@@ -202,13 +207,7 @@ pub extern "C" fn digribbon_day_number(
 pub extern "C" fn digribbon_date(day: i64, answer: &mut [u64; 3]) -> u64
     ensures { (result, answer.new) ≡ told date_words answer.old (date_of day) }
 {
-    match date_of(day) {
-        Dated::Refused(k) => k as u64,
-        Dated::Date(d) => {
-            *answer = [d.year, d.month, d.day];
-            0
-        }
-    }
+    tell(date_of(day).map(date_words), answer)
 }
 
 // The last day of a pass, from its first day and its months.
@@ -216,5 +215,5 @@ pub extern "C" fn digribbon_date(day: i64, answer: &mut [u64; 3]) -> u64
 pub extern "C" fn digribbon_last_day(first: i64, months: i64, answer: &mut [u64; 1]) -> u64
     ensures { (result, answer.new) ≡ told word answer.old (last_day first months) }
 {
-    tell_day(last_day(first, months), answer)
+    tell(last_day(first, months).map(word), answer)
 }
