@@ -40,14 +40,13 @@ fn with<const N: usize>(h: u64, answer: Result<[u64; N], Refusal>) -> u64 {
     }
 }
 
-// The digest with a day number more.
-fn with_day(h: u64, day: Result<u64, Refusal>) -> u64 {
-    with(h, day.map(|n| [n]))
+// The numbers of an answer.
+fn day_numbers(n: u64) -> [u64; 1] {
+    [n]
 }
 
-// The digest with a date more.
-fn with_date(h: u64, date: Result<Date, Refusal>) -> u64 {
-    with(h, date.map(|d| [d.year, d.month, d.day]))
+fn date_numbers(d: Date) -> [u64; 3] {
+    [d.year, d.month, d.day]
 }
 
 // The number at the place i, from 0, of those from -1 on.
@@ -93,7 +92,7 @@ fn edge(i: u64) -> i64 {
     EDGES[(i % 16) as usize]
 }
 
-// Prints the digest that n steps lead to.
+// Prints the digest of n answers, each taken in by a step from the digest so far and the answer's place.
 fn print_digest<F: Fn(u64, u64) -> u64>(rt: &impl Print, n: u64, step: F) -> io::Result<()>
     requires { F.IsAlwaysCallable step }
 {
@@ -136,10 +135,15 @@ fn print_year(rt: &impl Print, year: u64) -> io::Result<()> {
     let first = print_first(rt, year)?;
     let days = count(year);
     print!(rt; " {days}")?;
-    print_digest(rt, 560, |h, i| with_day(h, number_in(year, i)))?;
-    print_digest(rt, days, |h, i| with_date(h, date_of(days_on(first, i))))?;
+    print_digest(rt, 560, |h, i| {
+        with(h, number_in(year, i).map(day_numbers))
+    })?;
+    print_digest(rt, days, |h, i| {
+        with(h, date_of(days_on(first, i)).map(date_numbers))
+    })?;
     print_digest(rt, days * 16, |h, i| {
-        with_day(h, last_day(days_on(first, i / 16), from_minus_one(i % 16)))
+        let last = last_day(days_on(first, i / 16), from_minus_one(i % 16));
+        with(h, last.map(day_numbers))
     })?;
     println!(rt)
 }
@@ -147,11 +151,14 @@ fn print_year(rt: &impl Print, year: u64) -> io::Result<()> {
 fn print_edges(rt: &impl Print) -> io::Result<()> {
     print!(rt; "edges")?;
     print_digest(rt, 4096, |h, i| {
-        with_day(h, day_number(edge(i / 256), edge(i / 16), edge(i)))
+        let day = day_number(edge(i / 256), edge(i / 16), edge(i));
+        with(h, day.map(day_numbers))
     })?;
-    print_digest(rt, 16, |h, i| with_date(h, date_of(edge(i))))?;
+    print_digest(rt, 16, |h, i| {
+        with(h, date_of(edge(i)).map(date_numbers))
+    })?;
     print_digest(rt, 256, |h, i| {
-        with_day(h, last_day(edge(i / 16), edge(i)))
+        with(h, last_day(edge(i / 16), edge(i)).map(day_numbers))
     })?;
     println!(rt)
 }

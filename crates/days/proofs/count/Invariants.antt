@@ -1,9 +1,6 @@
 -- `count` counts at most one day a turn.
-use Rattle.std.proofs.Common.{◌-◌, ◌≤◌}
+use Rattle.std.proofs.Common.{◌≤◌}
 use Rattle.days.proofs.count.Given as goal
 
 abbrev pub invariant-loop-i : goal.invariant-loop-i
-invariant-loop-i l = (l.n ≤ l.i) × (l.i ≤ 560)
-
-abbrev pub decreases-loop-i : goal.decreases-loop-i
-decreases-loop-i l = 560 - l.i
+invariant-loop-i l = l.n ≤ l.i

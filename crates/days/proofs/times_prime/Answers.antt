@@ -8,5 +8,4 @@ by_halves : (n low q r k : ℕ) → low + 4294967296 * q ≡ n → r + 429496729
 by_halves n low q r k of-n of-high = sym (add-mul-mod_self_left _ (2 ^ 64) (q * 256 + k)) ∙ ap (λ x. x % 2 ^ 64) (omega arith)
 
 pub returns : goal.returns
-returns c =
-    c.wrapping_add_u64.ensures.value ∙ by_halves _ _ _ _ _ (mod-add-div c.args.n 4294967296) (mod-add-div _ 4294967296)
+returns c = by_halves _ _ _ _ _ (mod-add-div c.args.n 4294967296) (mod-add-div _ 4294967296)
