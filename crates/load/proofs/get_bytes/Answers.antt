@@ -8,11 +8,11 @@ loop-k-init c = gathered_none (record { ends = c.requires })
 
 pub overflow_add-word : goal.overflow_add-word
 overflow_add-word c =
-    let g = gathered_more c.loop-k.invariant (omega arith) c.place.ensures.0 c.wide.ensures (omega arith) in
+    let g = gathered_more c.loop-k.invariant (omega arith) c.place.ensures.0 c.from.ensures (omega arith) in
     record { fits = gathered_fits g }
 
 pub loop-k-preserved : goal.loop-k-preserved
-loop-k-preserved c = gathered_more c.loop-k.invariant (omega arith) c.place.ensures.0 c.wide.ensures (omega arith)
+loop-k-preserved c = gathered_more c.loop-k.invariant (omega arith) c.place.ensures.0 c.from.ensures (omega arith)
 
 pub returns : goal.returns
 returns c = gathered_all c.loop-k.invariant (omega arith)

@@ -1,10 +1,6 @@
 -- `get_bytes`: the word is the number of the k lowest bytes.
-use Rattle.std.proofs.Common.{◌-◌}
 use Rattle.load.proofs.Gathering.{Gathered}
 use Rattle.load.proofs.get_bytes.Given as goal
 
 abbrev pub invariant-loop-k : goal.invariant-loop-k
 invariant-loop-k l = Gathered l.big l.size l.at l.data l.word l.k
-
-abbrev pub decreases-loop-k : goal.decreases-loop-k
-decreases-loop-k l = l.n - l.k

@@ -17,7 +17,7 @@ bounds-out-at c =
 pub loop-j-preserved : goal.loop-j-preserved
 loop-j-preserved c =
     let test = c.loop-j-test.true in
-    pasted_more c.loop-j.invariant test (c.byte_of-b.ensures ∙ rw c.place.ensures.0 (sym (laid_at _ _ _ _ _ test)))
+    pasted_more c.loop-j.invariant test (c.byte_of.ensures ∙ rw c.place.ensures.0 (sym (laid_at _ _ _ _ _ test)))
 
 pub shape_of-out : goal.shape_of-out
 shape_of-out c =

@@ -1,15 +1,9 @@
 -- `to_signed` meets its contract: from 2^63 on, 0 - w wraps to 2^64 - w, and the integer is -1 - n for n one less.
-use Rattle.std.proofs.Common.{◌-◌, ◌^◌, ◌<◌, pos, sym, ◌∙◌, arith, w64}
+use Rattle.std.proofs.Common.{◌+◌, ◌-◌, ◌%◌, ◌^◌, ◌<◌, pos, sym, ◌∙◌, arith, w64}
 use mir.Facts.{to_z_pos}
 use Rattle.laws.proofs.Bytes.{signed_low}
-use Rattle.words.proofs.Twos.{minus_one_fits, minus_one_is, signed_top}
+use Rattle.words.proofs.Twos.{minus_one_is, signed_top}
 use Rattle.words.proofs.to_signed.Goals as goal
-
-pub overflow_sub-result : goal.overflow_sub-result
-overflow_sub-result c =
-    let n = c.wrapping_sub_u64-n.result - 1 in
-    let h : n < 2 ^ 63 = omega arith in
-    rw (to_z_pos w64 h) (minus_one_fits (pos n) (record { sfits = h }))
 
 pub returns-then-word-lt9223372036854775808 : goal.returns-then-word-lt9223372036854775808
 returns-then-word-lt9223372036854775808 c =
@@ -17,6 +11,7 @@ returns-then-word-lt9223372036854775808 c =
 
 pub returns-else-word-lt9223372036854775808 : goal.returns-else-word-lt9223372036854775808
 returns-else-word-lt9223372036854775808 c =
-    let n = c.wrapping_sub_u64-n.result - 1 in
+    let w = c.args.word in
+    let n = (0 + (2 ^ 64 - w)) % 2 ^ 64 - 1 in
     let h : n < 2 ^ 63 = omega arith in
-    rw (to_z_pos w64 h) (minus_one_is (pos n) (record { sfits = h }) ∙ sym (signed_top c.args.word n c.if-word-lt9223372036854775808.false (omega arith)))
+    rw (to_z_pos w64 h) (minus_one_is (pos n) (record { sfits = h }) ∙ sym (signed_top w n c.if-word-lt9223372036854775808.false (omega arith)))
