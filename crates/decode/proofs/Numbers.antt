@@ -8,7 +8,8 @@ use mathlib.Core.List.{List}
 use lib.IntN.{ℤ}
 use lib.ListN.{length, drop, length-drop}
 use borrow.Author.Tests.{lt-leb}
-use Rattle.std.specs.Prelude.{Result, Ok, Err}
+use Rattle.std.specs.Prelude.{Option, Some, None, Result, Ok, Err}
+use Rattle.std.specs.Option.{ok_or}
 use Rattle.single.specs.Single.{from_single}
 use Rattle.definition.specs.Answers.{Checked, refused, accepted, ◌>>=◌}
 use Rattle.definition.specs.Bytes.{total, signed}
@@ -31,6 +32,14 @@ use Rattle.decode.specs.declared.Decoded.{Decoded}
 pub bind_bind : {A B C : Type 0} (c : Checked A) (f : A → Checked B) (g : B → Checked C) → ((c >>= f) >>= g) ≡ (c >>= λ a. f a >>= g)
 bind_bind (refused k) f g = refl
 bind_bind (accepted a) f g = refl
+
+-- `ok_or` refuses as it is told, and then nothing is there
+pub none_of : {A : Type 0} {o : Option A} {e r : Refusal} → Err e ≡ ok_or o r → (o ≡ None) × (e ≡ r)
+none_of {o = None} q = (refl, grind arith)
+none_of {o = Some x} {e} {r} q = absurd (go q)
+  where
+    go : Err e ≡ Ok x → ⊥
+    go h = grind arith
 
 -- where the data end
 pub first_short : (n at : ℕ) (d : List ℕ) → length d - at < n → first n (drop at d) ≡ refused 17
@@ -60,6 +69,9 @@ module _ (d : List ℕ) (at : Offset) (o : Bool) (n : ℕ) where
   number_read : (k : Kind) (v : Value) (r : Reading) → at.0 + n ≤ length d → accepted v ≡ number_at o k n (from d at)
       → value_of d r ≡ v → Inside d r → Decodes d at o (Field.Number k n) (Ok (record { reading = r; size = n }))
   number_read k v r h e f i = record { says = rw (decode_number o k n (from d at), ← e, f); inside = (i, h) }
+
+  pub signed_wide : refused 18 ≡ signed_at o n (from d at) → Decodes d at o (Field.Number Signed n) (Err Refusal.IntegerTooWide)
+  signed_wide e = number_refused Signed e
 
   pub signed_read : {y z : ℤ} → y ≡ z → at.0 + n ≤ length d → accepted (integer z) ≡ signed_at o n (from d at)
       → Decodes d at o (Field.Number Signed n) (Ok (record { reading = Integer y; size = n }))

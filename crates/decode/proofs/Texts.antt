@@ -2,12 +2,12 @@
 use Prim.Native.Nat.{ℕ, suc, ◌+◌, ◌-◌, ◌≤◌, ◌<◌}
 use native.Mathlib.Omega.{arith}
 use mathlib.Core.Path.{◌≡◌, refl, sym, ap, ◌∙◌}
-use mathlib.Core.Bool.{Bool, true, false, cond}
+use mathlib.Core.Bool.{Bool, true, false, not, cond}
 use mathlib.Core.List.{List, [], ◌∷◌}
-use lib.Dec.{eqb}
+use lib.Dec.{eqb, ltb, leb-suc-suc}
 use lib.ListN.{length, take, drop, length-drop}
-use lib.Seq.{length-take-le, drop-drop}
-use borrow.Author.Tests.{le-leb, lt-leb}
+use lib.Seq.{length-take-le, take_all, drop-drop}
+use borrow.Author.Tests.{le-leb, lt-leb, lt-ltb}
 use Rattle.std.specs.Prelude.{Option, Some, None, Result, Ok, Err, nat_lt, ◌==◌, position}
 use Rattle.std.specs.List.{position_or_len}
 use Rattle.std.proofs.lemmas.List.Quantifiers.{position-Some}
@@ -63,26 +63,44 @@ up_to s (Some n) = accepted (take n s)
 
 zero_is : (s : List ℕ) → up_to_zero s ≡ up_to s (position is_zero s)
 zero_is [] = refl
-zero_is (b ∷ s) = go (eqb b 0) (nat_lt (position_or_len is_zero s) (length s)) (zero_is s)
+zero_is (b ∷ s) = rw (told (eqb b 0)) (go (eqb b 0) (ltb n (length s)) (zero_is s))
   where
-    go : (z h : Bool) → up_to_zero s ≡ up_to s (cond h (Some (position_or_len is_zero s)) None)
-        → cond z (accepted []) (up_to_zero s >>= λ t. accepted (b ∷ t)) ≡ up_to (b ∷ s) (cond z (Some 0) (cond h (Some (suc (position_or_len is_zero s))) None))
+    n : ℕ
+    n = position_or_len is_zero s
+
+    one_more : 1 + n ≡ suc n
+    one_more = omega arith
+
+    -- z: whether b is a zero, h: whether one stands behind it
+    go : (z h : Bool) → up_to_zero s ≡ up_to s (cond h (Some n) None)
+        → cond z (accepted []) (up_to_zero s >>= λ t. accepted (b ∷ t)) ≡ up_to (b ∷ s) (cond (cond z true h) (Some (cond (not z) (1 + n) 0)) None)
     go true h q = refl
-    go false true q = rw q refl
+    go false true q = rw (q, one_more) refl
     go false false q = rw q refl
 
+    told : (z : Bool) → ltb (cond (not z) (1 + n) 0) (suc (length s)) ≡ cond z true (ltb n (length s))
+    told true = lt-ltb 0 (suc (length s)) (omega arith)
+    told false = rw one_more (leb-suc-suc (suc n) (length s))
+
 module _ (d : List ℕ) (at : Offset) (o : Bool) where
-  pub zero_missing : position is_zero (from d at) ≡ None → Decodes d at o Field.ZeroEnded (Err Refusal.MissingZero)
+  -- the part of the data that is searched
+  abbrev rest : List ℕ
+  rest = take (length d - at.0) (from d at)
+
+  rest_is : rest ≡ from d at
+  rest_is = take_all (length d - at.0) (from d at) (omega (arith, length-drop at.0 d))
+
+  pub zero_missing : position is_zero rest ≡ None → Decodes d at o Field.ZeroEnded (Err Refusal.MissingZero)
   unfolding decode
-  zero_missing e = record { says = rw (zero_is (from d at), e); inside = tt }
+  zero_missing e = record { says = rw (zero_is (from d at), rw rest_is at e); inside = tt }
 
   -- the bytes before the zero
-  module _ (n : ℕ) (e : position is_zero (from d at) ≡ Some n) where
+  module _ (n : ℕ) (e : position is_zero rest ≡ Some n) where
     below : at.0 + n + 1 ≤ length d
-    below = omega (arith, (position-Some is_zero (from d at) n 0 e).0, length-drop at.0 d)
+    below = omega (arith, (position-Some is_zero (from d at) n 0 (rw rest_is at e)).0, length-drop at.0 d)
 
     before_zero : up_to_zero (from d at) ≡ accepted (take n (from d at))
-    before_zero = zero_is (from d at) ∙ ap (up_to (from d at)) e
+    before_zero = zero_is (from d at) ∙ ap (up_to (from d at)) (rw rest_is at e)
 
     pub zero_long : 65535 < n → Decodes d at o Field.ZeroEnded (Err Refusal.TextAbove65535)
     unfolding decode

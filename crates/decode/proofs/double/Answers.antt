@@ -3,4 +3,4 @@ use Rattle.decode.proofs.Numbers.{double_read}
 use Rattle.decode.proofs.double.Goals as goal
 
 pub returns : goal.returns
-returns c = double_read _ _ _ 8 c.get_word.ensures.0 c.requires
+returns c = double_read _ _ _ 8 c.get_word-word.ensures.0 c.requires
