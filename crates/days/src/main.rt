@@ -14,22 +14,15 @@ use calendar::Date;
 use dates::{date_of, day_number, last_day};
 use definition::Refusal;
 use std::io;
-use words::to_signed;
 
-// n * 1099511628211 modulo 2^64, by the halves of n. The prime is 2^40 + 435.
-fn times_prime(n: u64) -> u64
-    ensures { result ≡ (n * 1099511628211) % 2 ^ 64 }
-{
-    let low = n % 4294967296;
-    let high = n / 4294967296 * 435 + low * 256;
-    (low * 435).wrapping_add(high % 4294967296 * 4294967296)
-}
+// FNV-1a's prime.
+const PRIME: u64 = 1099511628211;
 
 // The digest with one number more: FNV-1a, of numbers in place of bytes.
 fn mixed(h: u64, x: u64) -> u64
     ensures { result ≡ (bit_xor h x * 1099511628211) % 2 ^ 64 }
 {
-    times_prime(h ^ x)
+    (h ^ x).wrapping_mul(PRIME)
 }
 
 // The digest with one answer more, of its numbers, or of a refusal's as a number above every day's.
@@ -51,18 +44,18 @@ fn date_numbers(d: Date) -> [u64; 3] {
 
 // The number at the place i, from 0, of those from -1 on.
 fn from_minus_one(i: u64) -> i64 {
-    to_signed(i.wrapping_sub(1))
+    i.wrapping_sub(1).cast_signed()
 }
 
 // The day i days after another.
 fn days_on(first: u64, i: u64) -> i64 {
-    to_signed(first.wrapping_add(i))
+    first.wrapping_add(i).cast_signed()
 }
 
 // The answer at the place i of the 560 for the months -1 to 14, and the days -1 to 33 of each.
 fn number_in(year: u64, i: u64) -> Result<u64, Refusal> {
     day_number(
-        to_signed(year),
+        year.cast_signed(),
         from_minus_one(i / 35),
         from_minus_one(i % 35),
     )
@@ -118,7 +111,7 @@ fn count(year: u64) -> u64
 
 // Prints the day number of a year's first day, if it has one, and answers it.
 fn print_first(rt: &impl Print, year: u64) -> io::Result<u64> {
-    match day_number(to_signed(year), 1, 1) {
+    match day_number(year.cast_signed(), 1, 1) {
         Ok(n) => {
             print!(rt; " {n}")?;
             Ok(n)
