@@ -1,4 +1,5 @@
 -- What X takes and aligns by, by the entry of the byte behind it.
+use Rattle.std.specs.Prelude.{slice_get, Some, None}
 use Prim.Native.Nat.{ℕ, suc, ◌+◌, ◌≤◌, ◌<◌}
 use mathlib.Core.Path.{◌≡◌, refl, sym, ap, ◌∙◌}
 use mathlib.Core.Bool.{true, ◌&&◌, cond}
@@ -7,7 +8,7 @@ use native.Mathlib.Numerals.{add-one, one-add}
 use native.Mathlib.Omega.{arith}
 use lib.Dec.{T}
 use mir.Facts.{and_yes}
-use lib.ListN.{length, get_or, drop}
+use lib.ListN.{length, drop}
 use borrow.Author.Tests.{lt-ltb, le-ltb, ne_eqb}
 use Rattle.definition.specs.Answers.{Checked, refused, accepted}
 use Rattle.definition.specs.Options.{entry, Table, Nothing, Entry}
@@ -19,15 +20,15 @@ use Rattle.laws.proofs.Ops.{ok}
 use Rattle.operand.proofs.Entries.{cut, at_fixed, at_plain, at_signed, at_unsigned, at_counted, at_chars, at_limit, at_align, at_none, own_size, sized_by, plain_all}
 use Rattle.operand.proofs.Numerals.{by_digits}
 
-pub natural_nil : (t : Table) (s : List ℕ) → length s ≡ 0 → refused 7 ≡ natural_at t s
+pub natural_nil : (t : Table) (s : List ℕ) → None ≡ slice_get s 0 → refused 7 ≡ natural_at t s
 unfolding natural_at next_byte
-natural_nil t [] h = refl
-natural_nil t (b ∷ s) h = absurd (omega arith)
+natural_nil t [] q = refl
+natural_nil t (b ∷ s) q = let z : ◌≡◌ {A = ℕ} 0 1 = cc in absurd (omega arith)
 
-pub natural_high : (t : Table) (s : List ℕ) → (length s ≡ 0 → ⊥) → 128 ≤ get_or s 0 0 → refused 1 ≡ natural_at t s
+pub natural_high : (t : Table) (s : List ℕ) (b : ℕ) → Some b ≡ slice_get s 0 → 128 ≤ b → refused 1 ≡ natural_at t s
 unfolding natural_at next_byte
-natural_high t [] n h = absurd (n refl)
-natural_high t (b ∷ s) n h = rw (le-ltb b 128 h)
+natural_high t [] b q h = let z : ◌≡◌ {A = ℕ} 0 1 = cc in absurd (omega arith)
+natural_high t (c ∷ s) b q h = let e : b ≡ c = cc in rw (le-ltb c 128 (omega arith))
 
 -- the digits that X takes behind a byte with the entry e, of s
 abbrev pub taken_of : Entry → List ℕ → List ℕ
@@ -38,15 +39,10 @@ abbrev pub natural : Entry → List ℕ → Checked (ℕ × ℕ)
 natural e s = taking (suc (length (taken_of e s))) (natural_by e.class e.rule e.size (numeral_of (taken_of e s)))
 
 -- with the entry e of the first byte
-pub front : (t : Table) (s : List ℕ) → (length s ≡ 0 → ⊥) → get_or s 0 0 < 128 → (e : ℕ) → entry_at e ≡ t (get_or s 0 0) → natural (entry_at e) (drop 1 s) ≡ natural_at t s
+pub front : (t : Table) (s : List ℕ) (b : ℕ) → Some b ≡ slice_get s 0 → b < 128 → (e : ℕ) → entry_at e ≡ t b → natural (entry_at e) (drop 1 s) ≡ natural_at t s
 unfolding natural_at next_byte
-front t [] n h e q = absurd (n refl)
-front t (b ∷ s) n h e q = rw (lt-ltb b 128 h, ← q)
-
--- what is not empty has a first byte
-pub inside : (s : List ℕ) → (length s ≡ 0 → ⊥) → 0 < length s
-inside [] n = absurd (n refl)
-inside (b ∷ s) n = omega arith
+front t [] b q h e p = let z : ◌≡◌ {A = ℕ} 0 1 = cc in absurd (omega arith)
+front t (c ∷ s) b q h e p = let i : b ≡ c = cc in rw (lt-ltb c 128 (omega arith), p ∙ ap t i)
 
 -- ---- by the packed number of the byte
 module _ (e : ℕ) (s : List ℕ) where

@@ -1,6 +1,7 @@
 -- The operand of an option that may have a numeral, by what its numeral is.
+use Rattle.std.specs.Prelude.{Option, Some, None, Result, Ok, Err}
 use Prim.Native.Nat.{ℕ, ◌^◌, ◌≤◌, ◌<◌}
-use mathlib.Core.Path.{◌≡◌, refl, sym, ◌∙◌}
+use mathlib.Core.Path.{◌≡◌, refl, sym, ap, ◌∙◌}
 use mathlib.Core.Bool.{Bool, true, false, cond}
 use mathlib.Core.List.{List, [], ◌∷◌}
 use lib.Dec.{ltb}
@@ -9,19 +10,19 @@ use Rattle.definition.specs.Answers.{Checked, refused}
 use Rattle.definition.specs.Options.{Table, Class}
 use Rattle.definition.specs.Items.{digits, value, numeral_of}
 use Rattle.definition.specs.Items as Numeral
+use Rattle.definition.specs.Refusals.{refusal_number}
+use Rattle.definition.specs.declared.Refusal.{Refusal}
 use Rattle.options.specs.Packed.{entry_at}
-use Rattle.numeral.specs.Numerals.{scanned}
+use Rattle.numeral.specs.Numerals.{read_of}
+use Rattle.numeral.specs.declared.Numeral as read
 use Rattle.operand.specs.Operands.{operand_by, taking, operand_at}
-use Rattle.numeral.specs.declared.Scan.{Scan}
-use Rattle.numeral.specs.declared.Scan.TheVariants.{Missing, TooLarge, Value}
-use Rattle.numeral.proofs.Digits.{scan_of}
 use Rattle.operand.proofs.Entries.{cut, digits_rule, sized_by, chars_by, limit_by}
 
 -- the operand by class and size, and by what the digits that follow are read as
-abbrev pub by_scan : Class → ℕ → Scan → Checked (ℕ × ℕ)
-by_scan c n Missing = taking 0 (operand_by c n Numeral.Missing)
-by_scan c n TooLarge = refused 2
-by_scan c n (Value v p) = taking p (operand_by c n (Numeral.Value v))
+abbrev pub by_read : Class → ℕ → Result (Option read.Numeral) Refusal → Checked (ℕ × ℕ)
+by_read c n (Ok None) = taking 0 (operand_by c n Numeral.Missing)
+by_read c n (Ok (Some m)) = taking m.end (operand_by c n (Numeral.Value m.value))
+by_read c n (Err r) = refused (refusal_number r)
 
 module _ (t : Table) (e : ℕ) (l : 192 ≤ e) (h : e < 248) (s : List ℕ) where
   -- the operand, by the digits that follow
@@ -35,15 +36,16 @@ module _ (t : Table) (e : ℕ) (l : 192 ≤ e) (h : e < 248) (s : List ℕ) wher
       cut e 244 (λ k. chars_by e m k Numeral.TooLarge) λ m.
       limit_by e m h Numeral.TooLarge
 
-  pub by_scan_lem : by_scan (entry_at e).class (entry_at e).size (scan_of s) ≡ operand_at t (entry_at e) s
+  -- the operand, by the answer r of reading them
+  pub by_read_is : (r : Result (Option read.Numeral) Refusal) → r ≡ read_of (numeral_of (digits s)) (length (digits s)) → by_read (entry_at e).class (entry_at e).size r ≡ operand_at t (entry_at e) s
   unfolding numeral_of
-  by_scan_lem = sym (by_digits ∙ go (digits s))
+  by_read_is r q = ap (by_read (entry_at e).class (entry_at e).size) q ∙ sym (by_digits ∙ go (digits s))
     where
-      go : (ds : List ℕ) → taking (length ds) (operand_by (entry_at e).class (entry_at e).size (numeral_of ds)) ≡ by_scan (entry_at e).class (entry_at e).size (scanned (numeral_of ds) (length ds))
+      go : (ds : List ℕ) → taking (length ds) (operand_by (entry_at e).class (entry_at e).size (numeral_of ds)) ≡ by_read (entry_at e).class (entry_at e).size (read_of (numeral_of ds) (length ds))
       go [] = refl
       go (d ∷ ds) = fits (ltb (value 0 (d ∷ ds)) (2 ^ 64))
         where
           fits : (b : Bool) → taking (length (d ∷ ds)) (operand_by (entry_at e).class (entry_at e).size (cond b (Numeral.Value (value 0 (d ∷ ds))) Numeral.TooLarge))
-              ≡ by_scan (entry_at e).class (entry_at e).size (scanned (cond b (Numeral.Value (value 0 (d ∷ ds))) Numeral.TooLarge) (length (d ∷ ds)))
+              ≡ by_read (entry_at e).class (entry_at e).size (read_of (cond b (Numeral.Value (value 0 (d ∷ ds))) Numeral.TooLarge) (length (d ∷ ds)))
           fits true = refl
           fits false = rw large_by

@@ -1,5 +1,5 @@
 -- The operand of X and of a byte that is no option, and how many bytes an option takes.
-use Prim.Native.Nat.{ℕ, ◌^◌, ◌≤◌, ◌<◌}
+use Prim.Native.Nat.{ℕ, ◌≤◌, ◌<◌}
 use mathlib.Core.Path.{◌≡◌, refl, sym, ap}
 use mathlib.Core.Bool.{Bool, true, false, cond}
 use mathlib.Core.List.{List}
@@ -11,9 +11,7 @@ use Rattle.definition.specs.Options.{Table, entry, Nothing, DigitsBehindX, Numbe
 use Rattle.definition.specs.Items.{taken_by}
 use Rattle.definition.specs.Items as Numeral
 use Rattle.options.specs.Packed.{kind_at, size_at, plain_at, entry_at}
-use Rattle.operand.specs.Operands.{operand_by, operand_with, taking, operand_at, natural_at, operand_of, RoomFor1, behind_of}
-use Rattle.operand.specs.declared.Behind.{Behind}
-use Rattle.operand.specs.declared.Operand.{Operand}
+use Rattle.operand.specs.Operands.{operand_by, operand_with, taking, operand_at, natural_at}
 use Rattle.operand.proofs.Taken.{taken_length}
 use Rattle.operand.proofs.Entries.{cut, at_fixed, at_plain, at_align, at_none, plain_all}
 
@@ -26,15 +24,10 @@ pub operand_count : (t : Table) (e : Entry) (s : List ℕ) (n i : ℕ) → opera
 unfolding operand_at
 operand_count t e s n i q = rw (taking_count (operand_with t e.rule e (taken_by t e.rule s)) (length (taken_by t e.rule s)) n i q) (taken_length t e.rule s)
 
-pub room : (t : Table) (x : Operand) (e : Entry) (s : List ℕ) → operand_of x ≡ operand_at t e s → length s < 2 ^ 63 → RoomFor1 x
-room t (Operand.Refused k) e s q h = tt
-room t (Operand.Of n i) e s q h = omega (arith, operand_count t e s n i (sym q))
-
 -- ---- X, and a byte that is no option
--- what the answer y says of s, which follows X
-pub behind_is : (t : Table) (e : ℕ) → 248 ≤ e → e < 252 → (s : List ℕ) (y : Behind) → behind_of t y s ≡ natural_at t s → behind_of t y s ≡ operand_at t (entry_at e) s
+pub operand_x : (t : Table) (e : ℕ) → 248 ≤ e → e < 252 → (s : List ℕ) → natural_at t s ≡ operand_at t (entry_at e) s
 unfolding operand_at natural_at
-behind_is t e l h s y p = rw (at_align e l h) p
+operand_x t e l h s = rw (at_align e l h)
 
 pub operand_none : (t : Table) (e : ℕ) → 252 ≤ e → (s : List ℕ) → refused 1 ≡ operand_at t (entry_at e) s
 unfolding operand_at

@@ -35,7 +35,7 @@ enum Behind {
 fn size(n: u64) -> Result<u64, Refusal>
     ensures { answer_of result ≡ size_or 0 (Value n) }
 {
-    if n < 1 || 16 < n {
+    if !(1..=16).contains(&n) {
         return Err(Refusal::SizeOutside);
     }
     Ok(n)
@@ -45,7 +45,7 @@ fn size(n: u64) -> Result<u64, Refusal>
 fn limit(n: u64) -> Result<u64, Refusal>
     ensures { answer_of result ≡ limit_or 0 (Value n) }
 {
-    if n < 1 || 16 < n {
+    if !(1..=16).contains(&n) {
         return Err(Refusal::LimitOutside);
     }
     if !is_power(n) {
@@ -90,7 +90,8 @@ fn by_numeral(rest: &[u8], e: u8) -> Result<Operand, Refusal>
     requires high { e < 248 }
     ensures { (t : Table) → answer_by pair_of result ≡ operand_at t (entry_at e) rest.now }
 {
-    match read(rest)? {
+    let numeral = read(rest)?;
+    match numeral {
         None => Ok(Operand {
             value: without_numeral(e)?,
             taken: 0,
@@ -147,19 +148,19 @@ fn operand_of(table: &OptionTable, rest: &[u8], e: u8) -> Result<Operand, Refusa
     if e < LIMIT_END {
         return by_numeral(rest, e);
     }
-    if ALIGN_END <= e {
-        return Err(Refusal::UnknownOption);
+    if e < ALIGN_END {
+        return match behind_x(table, rest)? {
+            Behind::By(x) => Ok(x),
+            Behind::Numeral(f) => {
+                let x = operand_of(table, &rest[1..], f)?;
+                Ok(Operand {
+                    value: x.value,
+                    taken: x.taken + 1,
+                })
+            }
+        };
     }
-    match behind_x(table, rest)? {
-        Behind::By(x) => Ok(x),
-        Behind::Numeral(f) => {
-            let x = operand_of(table, &rest[1..], f)?;
-            Ok(Operand {
-                value: x.value,
-                taken: x.taken + 1,
-            })
-        }
-    }
+    Err(Refusal::UnknownOption)
 }
 
 // What the numeral of an option shows at once. An option that takes nothing has none; X, and what is no option, count as long.

@@ -1,26 +1,33 @@
--- The scan of the digits that follow is the numeral of the definition.
-use Rattle.std.proofs.Common.{◌≡◌, ℕ, ◌≤◌, ◌<◌, List, ap, ◌∙◌}
-use Rattle.definition.specs.Options.{Table}
-use Rattle.numeral.specs.declared.Scan.{Scan}
-use Rattle.numeral.specs.declared.Scan.TheVariants.{Missing, TooLarge, Value}
-use Rattle.numeral.proofs.Digits.{scan_of}
-use Rattle.operand.specs.Operands.{operand_at}
-use Rattle.options.specs.Packed.{entry_at}
-use Rattle.operand.proofs.Numerals.{by_scan, by_scan_lem}
+-- The operand is the one by what the digits are read as.
+use Rattle.std.proofs.Common.{ap, ◌∙◌, Some, None, Ok, Err}
+use Rattle.std.proofs.lemmas.Result.{err_from_is_err_and}
+use Rattle.operand.specs.Operands.{taking}
+use Rattle.operand.proofs.Numerals.{by_read_is}
 use Rattle.operand.proofs.by_numeral.Goals as goal
 
--- the operand by the scan x
-scan : (e : ℕ) (s : List ℕ) (x : Scan) → 192 ≤ e → e < 248 → x ≡ scan_of s → (t : Table) → by_scan (entry_at e).class (entry_at e).size x ≡ operand_at t (entry_at e) s
-scan e s x l h q t = ap (by_scan (entry_at e).class (entry_at e).size) q ∙ by_scan_lem t e l h s
+pub returns-in_err-numeral : goal.returns-in_err-numeral
+returns-in_err-numeral c =
+    let p = err_from_is_err_and c.from_residual.result c.from_residual.ensures.1 in
+    λ t. rw (p.1, p.2) (by_read_is t _ c.requires.low c.requires.high _ (Err _) c.in_err-numeral.ensures)
 
-pub returns-in-Missing : goal.returns-in-Missing
-returns-in-Missing c =
-    λ t. c.without_numeral.ensures ∙ scan c.args.e c.args.rest.now Missing c.requires.low c.requires.high c.in-Missing.ensures t
+pub returns-in_err-without_numeral-in-None : goal.returns-in_err-without_numeral-in-None
+returns-in_err-without_numeral-in-None c =
+    let q = rw c.in-None.is at c.in_ok-numeral.ensures in
+    let p = err_from_is_err_and c.from_residual-in_err-without_numeral-in-None.result c.from_residual-in_err-without_numeral-in-None.ensures.1 in
+    λ t. rw (p.1, p.2) (ap (taking 0) c.in_err-without_numeral-in-None.ensures ∙ by_read_is t _ c.requires.low c.requires.high _ (Ok None) q)
 
-pub returns-in-TooLarge : goal.returns-in-TooLarge
-returns-in-TooLarge c =
-    scan c.args.e c.args.rest.now TooLarge c.requires.low c.requires.high c.in-TooLarge.ensures
+pub returns-in_err-with_numeral-in-Some : goal.returns-in_err-with_numeral-in-Some
+returns-in_err-with_numeral-in-Some c =
+    let q = rw c.in-Some.is at c.in_ok-numeral.ensures in
+    let p = err_from_is_err_and c.from_residual-in_err-with_numeral-in-Some.result c.from_residual-in_err-with_numeral-in-Some.ensures.1 in
+    λ t. rw (p.1, p.2) (ap (taking c.in-Some.n.end) c.in_err-with_numeral-in-Some.ensures ∙ by_read_is t _ c.requires.low c.requires.high _ (Ok (Some _)) q)
 
-pub returns-in-Value : goal.returns-in-Value
-returns-in-Value c =
-    λ t. c.with_numeral.ensures ∙ scan c.args.e c.args.rest.now (Value c.in-Value.n c.in-Value.i) c.requires.low c.requires.high c.in-Value.ensures t
+pub returns-in_ok-without_numeral-in-None : goal.returns-in_ok-without_numeral-in-None
+returns-in_ok-without_numeral-in-None c =
+    let q = rw c.in-None.is at c.in_ok-numeral.ensures in
+    λ t. ap (taking 0) c.in_ok-without_numeral-in-None.ensures ∙ by_read_is t _ c.requires.low c.requires.high _ (Ok None) q
+
+pub returns-in_ok-with_numeral-in-Some : goal.returns-in_ok-with_numeral-in-Some
+returns-in_ok-with_numeral-in-Some c =
+    let q = rw c.in-Some.is at c.in_ok-numeral.ensures in
+    λ t. ap (taking c.in-Some.n.end) c.in_ok-with_numeral-in-Some.ensures ∙ by_read_is t _ c.requires.low c.requires.high _ (Ok (Some _)) q

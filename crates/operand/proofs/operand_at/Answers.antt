@@ -1,43 +1,27 @@
 -- What the digits show at once decides with the range of the entry; all else is asked of the whole reader, which only an option with a numeral, X and no option need.
-use mathlib.Core.Path.{◌≡◌, sym, ap, ◌∙◌, subst}
+use mathlib.Core.Path.{◌≡◌, sym, ◌∙◌, subst}
 use native.Mathlib.Omega.{arith}
 use lib.ListN.{drop}
 use Rattle.numeral.specs.declared.Short.{Short}
-use Rattle.numeral.specs.declared.Short.TheVariants.{Missing, Digit, Long}
-use Rattle.operand.specs.Operands.{operand_at}
-use Rattle.options.specs.Packed.{entry_at, table_at}
-use Rattle.numeral.proofs.Digits.{part_rest}
+use Rattle.options.specs.Packed.{table_at}
+use Rattle.operand.specs.Operands.{shown_at}
 use Rattle.operand.proofs.Digits.{Shows, shows}
 use Rattle.operand.proofs.operand_at.Goals as goal
-use Rattle.operand.proofs.operand_at.Goals.{After-shown, in-Missing+else-e-lt-COUNTED_END, in-Digit+else-e-lt-CHARS_END+else-is_power, in-Long}
+use Rattle.operand.proofs.operand_at.Goals.{After-shown, then-e-lt-CHARS_END, else-e-lt-CHARS_END}
 
 -- what the answer x of shown says
-said : (c : After-shown) (x : Short) → c.shown.result ≡ x → let a = c.before.before.args in Shows (table_at a.table.now) a.e (drop a.at a.format.now) x
-said c x q =
-    let a = c.before.before.args in
-    subst (Shows (table_at a.table.now) a.e (drop a.at a.format.now)) (sym c.shown.ensures ∙ q) (shows (table_at a.table.now) a.e (drop a.at a.format.now))
-
-pub returns-then-e-lt-COUNTED_END : goal.returns-then-e-lt-COUNTED_END
-returns-then-e-lt-COUNTED_END c =
-    rw c.size_of.ensures (said (goal.at.returns-then-e-lt-COUNTED_END c).After-shown Missing c.in-Missing.is c.if-e-lt-COUNTED_END.true)
-
-pub returns-then-e-lt-CHARS_END : goal.returns-then-e-lt-CHARS_END
-returns-then-e-lt-CHARS_END c =
-    said (goal.at.returns-then-e-lt-CHARS_END c).After-shown (Digit _) c.in-Digit.is (λ h. absurd (omega arith))
-
-pub returns-then-is_power : goal.returns-then-is_power
-returns-then-is_power c =
-    said (goal.at.returns-then-is_power c).After-shown (Digit _) c.in-Digit.is (λ h. sym c.is_power.ensures ∙ c.if-is_power.true)
-
-pub operand_of-requires-clause-low : goal.operand_of-requires-clause-low
-operand_of-requires-clause-low c =
-    elim c.match-shown.branch [
-      | in-Missing+else-e-lt-COUNTED_END w ↦ omega arith
-      | in-Digit+else-e-lt-CHARS_END+else-is_power w ↦ omega arith
-      | in-Long w ↦ said (goal.at.operand_of-requires-clause-low c).After-shown Long w.in-Long.is
-    ]
-
-pub returns : goal.returns
-returns c =
+said : (c : After-shown) {x : Short} → x ≡ shown_at c.args.e (drop c.args.at c.args.format.now) → Shows (table_at c.args.table.now.entries) c.args.e (drop c.args.at c.args.format.now) x
+said c q =
     let a = c.args in
-    c.operand_of.ensures ∙ ap (operand_at (table_at a.table.now) (entry_at a.e)) (part_rest a.at a.format.now)
+    subst (Shows (table_at a.table.now.entries) a.e (drop a.at a.format.now)) (sym q) (shows (table_at a.table.now.entries) a.e (drop a.at a.format.now))
+
+pub returns-in-Missing : goal.returns-in-Missing
+returns-in-Missing c = rw c.size_of.ensures (said (goal.at.returns-in-Missing c).After-shown c.in-Missing.ensures c.if-e-lt-COUNTED_END.true)
+
+pub returns-in-Digit : goal.returns-in-Digit
+returns-in-Digit c =
+    said (goal.at.returns-in-Digit c).After-shown c.in-Digit.ensures λ h.
+    elim c.if-e-lt-CHARS_END.branch [
+      | then-e-lt-CHARS_END w ↦ absurd (omega arith)
+      | else-e-lt-CHARS_END w ↦ sym w.is_power.ensures ∙ sym w.value-is ∙ c.if-is_power.true
+    ]
