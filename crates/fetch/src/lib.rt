@@ -68,8 +68,7 @@ fn read_number(data: &[u8], s: State, kind: Kind, size: u64) -> Result<Fetched, 
     ensures { Fetches «data».now s (ops.Put (fields.Number kind size)) result }
 {
     let at = read_pad(data, s, natural(Field::Number(kind, size)), 0)?;
-    let x = number(data, at, s.big, kind, size)?;
-    Ok(after(at, x))
+    Ok(after(at, number(data, at, s.big, kind, size)?))
 }
 
 // s: the alignment of its length, then its value.
@@ -79,8 +78,7 @@ fn read_counted(data: &[u8], s: State, size: u64) -> Result<Fetched, Refusal>
     ensures { Fetches «data».now s (ops.Put (fields.Counted size)) result }
 {
     let at = read_pad(data, s, natural(Field::Counted(size)), 0)?;
-    let x = counted(data, at, s.big, size)?;
-    Ok(after(at, x))
+    Ok(after(at, counted(data, at, s.big, size)?))
 }
 
 // c or z: its alignment, then its value.
@@ -91,14 +89,8 @@ fn read_text(data: &[u8], s: State, f: Field) -> Result<Fetched, Refusal>
 {
     let at = read_pad(data, s, natural(f), 0)?;
     match f {
-        Field::Chars(n) => {
-            let x = text(data, at, n)?;
-            Ok(after(at, x))
-        }
-        _ => {
-            let x = zero_ended(data, at)?;
-            Ok(after(at, x))
-        }
+        Field::Chars(n) => Ok(after(at, text(data, at, n)?)),
+        _ => Ok(after(at, zero_ended(data, at)?)),
     }
 }
 
@@ -126,9 +118,6 @@ pub fn read_op(data: &[u8], s: State, op: Op) -> Result<Fetched, Refusal>
         Op::Put(f) => read_field(data, s, f),
         Op::Blank => Ok(Fetched::Set(s)),
         Op::Set(x) => Ok(Fetched::Set(set(s, x))),
-        Op::Pad(n, k) => {
-            let end = read_pad(data, s, n, k)?;
-            Ok(Fetched::Set(at_offset(s, end)))
-        }
+        Op::Pad(n, k) => Ok(Fetched::Set(at_offset(s, read_pad(data, s, n, k)?))),
     }
 }

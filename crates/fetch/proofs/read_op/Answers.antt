@@ -1,4 +1,5 @@
 -- `read_op` meets its contract, by what the item does.
+use Rattle.std.proofs.lemmas.Result.{err_from_is_err_and}
 use Rattle.fetch.proofs.Places.{blank_op, set_op, pad_op_refused, pad_op}
 use Rattle.fetch.proofs.read_op.Goals as goal
 
@@ -8,8 +9,10 @@ returns-in-Blank c = rw c.in-Blank.is (blank_op _ _ c.requires.stands)
 pub returns-in-Set : goal.returns-in-Set
 returns-in-Set c = rw c.in-Set.is (set_op _ _ c.requires.stands _ (rw c.in-Set.is at c.requires.valid_op) c.set.ensures)
 
-pub returns-in-Refused : goal.returns-in-Refused
-returns-in-Refused c = rw c.in-Pad.is (pad_op_refused c.in-Refused.ensures)
+pub returns-in_err-read_pad-in-Pad : goal.returns-in_err-read_pad-in-Pad
+returns-in_err-read_pad-in-Pad c =
+    let p = err_from_is_err_and c.from_residual.result c.from_residual.ensures.1 in
+    rw (p.1, p.2, c.in-Pad.is) (pad_op_refused c.in_err-read_pad-in-Pad.ensures)
 
-pub returns-in-To : goal.returns-in-To
-returns-in-To c = rw c.in-Pad.is (pad_op c.requires.stands.1 c.in-To.ensures c.at_offset.ensures)
+pub returns-in_ok-read_pad-in-Pad : goal.returns-in_ok-read_pad-in-Pad
+returns-in_ok-read_pad-in-Pad c = rw c.in-Pad.is (pad_op c.requires.stands.1 c.in_ok-read_pad-in-Pad.ensures c.at_offset.ensures)
