@@ -1,6 +1,7 @@
 -- The remainder by 2^64 by a float's bits: below 2^64 a float is its own, and from there on it is a whole number, whose lowest 64 bits are left.
 use Rattle.std.proofs.Common.{◌≡◌, ℕ, zero, suc, ◌+◌, ◌-◌, ◌*◌, ◌/◌, ◌%◌, ◌^◌, ◌<◌, ◌≤◌, Bool, true, false, not, ◌&&◌, cond, T, eqb, ltb, leb, pos, sym, refl, ap, subst, ◌∙◌}
 use Rattle.std.proofs.Common.{lt_of_lt_of_le, lt_of_le_of_lt, le_of_eq, mod-lt, mod-eq_of_lt, mul_right_comm, mul_assoc, mul-one, mul-lt-mul_of_pos_right, lt_of_mul-lt-mul_right, arith, pow_pos, pow_mono, pow-add, shl_lt, eq-eqb}
+use mathlib.Core.Bool.{false≢true}
 use native.Mathlib.Nat.{eq_of_mul-eq-mul_right, mul-mod_left}
 use borrow.Author.Tests.{le-leb, lt-leb}
 use lib.Ieee.{Float, nan, inf, fin, binary64, up, down, units, round, rem, neg, ne, eq, is_nan, fits, odd, of_int, of_fields, of_bits, to_bits}
@@ -13,18 +14,6 @@ use Rattle.numbers.proofs.Integers.{fields_value}
 use Rattle.numbers.proofs.Remainders.{two64, left, scaled, held, remainder}
 
 -- ---- of floats
-
--- what a comparison of a float with itself says
-pub differs : (x : Float) → ne x x ≡ is_nan x
-unfolding ne eq is_nan
-differs nan = refl
-differs (inf true) = refl
-differs (inf false) = refl
-differs (fin true m e) = ap (λ (b : Bool). not (b && true)) (eq-eqb (m * up e * down e) _ refl)
-differs (fin false m e) = ap (λ (b : Bool). not (b && true)) (eq-eqb (m * up e * down e) _ refl)
-
-pub a_number : (x : Float) → ne x x ≡ false → T (not (is_nan x))
-a_number x h = subst (λ (b : Bool). T (not b)) (sym (sym (differs x) ∙ h)) tt
 
 neg_odd : (d q k l : ℕ) → neg (odd d false q k l) ≡ odd d true q k l
 unfolding neg odd
@@ -111,11 +100,11 @@ module _ (s : Bool) (t : ℕ) (t_lt : t < 2 ^ 52) where
       go false = refl
 
 -- ---- by the code's tests
-pub not_a_number : (x : Float) → ne x x ≡ true → x ≡ rem binary64 x two64
+pub not_a_number : (x : Float) → is_nan x ≡ true → x ≡ rem binary64 x two64
 unfolding is_nan rem
 not_a_number nan h = refl
-not_a_number (inf s) h = absurd (subst T (sym (sym (differs (inf s)) ∙ h)) tt)
-not_a_number (fin s m e) h = absurd (subst T (sym (sym (differs (fin s m e)) ∙ h)) tt)
+not_a_number (inf s) h = absurd (false≢true h)
+not_a_number (fin s m e) h = absurd (false≢true h)
 
 module _ (x : Float) (f : T (fits binary64 x)) where
   abbrev b : ℕ

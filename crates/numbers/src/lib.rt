@@ -113,7 +113,7 @@ fn low_bits(bits: u64) -> u64
 fn remainder(x: f64) -> f64
     ensures { result ≡ rem binary64 x (fin false 1 (pos 64)) }
 {
-    if x != x {
+    if x.is_nan() {
         return x;
     }
     let bits = x.to_bits();

@@ -1,18 +1,15 @@
 -- `remainder` meets its contract: each return is a law of proofs/LowBits.antt.
-use Rattle.std.proofs.Common.{ℕ, pos, T, rules, ap, ◌∙◌}
+use Rattle.std.proofs.Common.{ℕ, pos, T, rules, sym, ap, ◌∙◌}
 use lib.Ieee.{binary64, fits, of_int}
-use Rattle.numbers.proofs.LowBits.{a_number, not_a_number, its_own, infinite, positive, negative}
+use Rattle.numbers.proofs.LowBits.{not_a_number, its_own, infinite, positive, negative}
 use Rattle.numbers.proofs.remainder.Goals as goal
 use Rattle.numbers.proofs.remainder.Goals.{Start}
 
 held : (c : Start) → T (fits binary64 c.args.x)
 held c = search rules
 
-pub returns-then-x : goal.returns-then-x
-returns-then-x c = not_a_number c.args.x c.if-x.true
-
-pub float_to_bits-bits : goal.float_to_bits-bits
-float_to_bits-bits c = a_number c.args.x c.if-x.false
+pub returns-then-is_nan : goal.returns-then-is_nan
+returns-then-is_nan c = not_a_number c.args.x (sym c.is_nan.ensures.value ∙ c.if-is_nan.true)
 
 pub returns-then-exponent-le-EXPONENT_OF_TOP : goal.returns-then-exponent-le-EXPONENT_OF_TOP
 returns-then-exponent-le-EXPONENT_OF_TOP c =
