@@ -1,8 +1,8 @@
 -- What a word says.
-use Rattle.std.specs.Prelude.{ℕ, ◌^◌, ◌≡◌, Bool, cond, List, ltb, ℤ, pos, Result}
-use Rattle.std.proofs.Math.Option.{Option, none, some}
+use Rattle.std.specs.Prelude.{ℕ, ◌^◌, ◌≡◌, Bool, true, false, cond, List, ltb, ℤ, Result}
 use Rattle.definition.specs.Answers.{Checked, refused, accepted, ◌>>=◌, ◌>>◌, require}
 use Rattle.definition.specs.Bytes.{laid, coded}
+use Rattle.definition.specs.Fields.{in_signed, in_unsigned}
 use Rattle.definition.specs.Refusals.{answer_by}
 use Rattle.definition.specs.declared.Refusal.{Refusal}
 
@@ -14,10 +14,10 @@ fill_of b = cond (ltb b (2 ^ 63)) 0 255
 abbrev pub Says : ℕ → Checked ℤ → Result ℕ Refusal → Type 0
 Says n z r = (o : Bool) → answer_by (λ b. laid o n b (fill_of b)) r ≡ (z >>= λ x. accepted (coded o n x))
 
--- a pattern, as the integer that is not negative, or 12
-abbrev pub pattern_or : Option ℕ → Checked ℤ
-pattern_or (some b) = accepted (pos b)
-pattern_or none = refused 12
+-- z is in the range of n bytes: the signed range (true), or the other
+abbrev pub in_range : Bool → ℕ → ℤ → Bool
+in_range true n z = in_signed n z
+in_range false n z = in_unsigned n z
 
 -- an integer that is inside its range, or 13
 abbrev pub ranged_or : Bool → ℤ → Checked ℤ

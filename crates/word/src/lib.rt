@@ -1,12 +1,16 @@
 // The bits of the integer that a number option writes.
 #![tactic(auto)]
 
-ghost use Rattle.std.specs.Prelude.{◌≡◌, List, ℕ, ◌^◌, ◌≤◌, ◌<◌, T};
+ghost use Rattle.std.specs.Prelude.{◌≡◌, List, ℕ, ◌^◌, ◌≤◌, ◌<◌, cond, ltb, T};
+ghost use Rattle.definition.specs.Answers.{refused, or_else};
+ghost use Rattle.definition.specs.Bytes.{extent};
 ghost use Rattle.definition.specs.Fields as fields;
+ghost use Rattle.definition.specs.Refusals.{answer_of};
+ghost use Rattle.definition.specs.Values as definition;
 ghost use Rattle.definition.specs.declared.Kind.TheVariants as kinds;
 ghost use Rattle.laws.proofs.Numbers.{valid_size};
 ghost use Rattle.values.specs.Meaning.{meaning, Proper};
-ghost use Rattle.word.specs.Words.{Says, ranged_or};
+ghost use Rattle.word.specs.Words.{Says, in_range, ranged_or};
 
 use definition::{Kind, Refusal};
 use numbers::{as_integer, as_number, as_wrapped};
@@ -14,57 +18,70 @@ use single::to_single;
 use values::Value;
 use words::{extent, to_word};
 
+// The integer of a value.
+fn integer(v: Value) -> Result<i64, Refusal>
+    requires { Proper v }
+    ensures { (l : List ℕ) → answer_of result ≡ or_else (definition.as_integer (meaning l v)) (refused 12) }
+{
+    as_integer(v).ok_or(Refusal::WrongKind)
+}
+
+// The number of a value, by its bits.
+fn number(v: Value) -> Result<u64, Refusal>
+    requires { Proper v }
+    ensures { (l : List ℕ) → answer_of result ≡ or_else (definition.as_number (meaning l v)) (refused 12) }
+{
+    as_number(v).ok_or(Refusal::WrongKind)
+}
+
 // b h B H: any integer.
 fn any_integer(v: Value) -> Result<u64, Refusal>
     requires { Proper v }
     ensures { (l : List ℕ) (n : ℕ) → Says n (fields.word kinds.SmallSigned n (meaning l v)) result }
 {
-    as_integer(v).map(to_word).ok_or(Refusal::WrongKind)
+    let z = integer(v)?;
+    Ok(to_word(z))
 }
 
-// Whether z is in the signed range of size bytes.
-fn in_signed(size: u64, z: i64) -> bool
-    requires { 1 ≤ size }
-    ensures { result ≡ fields.in_signed size z }
+// Whether an integer, a negative one as -1 - z, has at most so many bits.
+fn has_bits(bits: u64, z: i64) -> bool
+    ensures { result ≡ ltb (extent z) (2 ^ bits) }
 {
-    size >= 8 || extent(z) < 1 << (8 * size - 1)
+    bits >= 64 || extent(z) < 1 << bits
 }
 
-// Whether z is in the unsigned range of size bytes.
-fn in_unsigned(size: u64, z: i64) -> bool
-    ensures { result ≡ fields.in_unsigned size z }
+// Whether an integer is in the range of size bytes: the signed range, or the other.
+fn is_in_range(signed: bool, size: u64, z: i64) -> bool
+    requires { (1 ≤ size) × (size ≤ 16) }
+    ensures { result ≡ in_range signed size z }
 {
-    z >= 0 && (size >= 8 || extent(z) < 1 << (8 * size))
+    if signed {
+        has_bits(8 * size - 1, z)
+    } else {
+        z >= 0 && has_bits(8 * size, z)
+    }
 }
 
-// An integer, or 13 where it is out of its range.
-fn in_range(inside: bool, z: i64) -> Result<u64, Refusal>
-    ensures { (n : ℕ) → Says n (ranged_or inside z) result }
+// An integer in the range of size bytes.
+fn in_range(signed: bool, size: u64, z: i64) -> Result<u64, Refusal>
+    requires { (1 ≤ size) × (size ≤ 16) }
+    ensures { Says size (ranged_or (in_range signed size z) z) result }
 {
-    if inside {
+    if is_in_range(signed, size, z) {
         Ok(to_word(z))
     } else {
         Err(Refusal::OutOfRange)
     }
 }
 
-// i l
-fn signed(size: u64, v: Value) -> Result<u64, Refusal>
+// i l, signed, and I L: an integer in the range of size bytes.
+fn ranged(signed: bool, size: u64, v: Value) -> Result<u64, Refusal>
     requires proper { Proper v }
-    requires positive { 1 ≤ size }
-    ensures { (l : List ℕ) → Says size (fields.word kinds.Signed size (meaning l v)) result }
+    requires size { (1 ≤ size) × (size ≤ 16) }
+    ensures { (l : List ℕ) → Says size (fields.word (cond signed kinds.Signed kinds.Unsigned) size (meaning l v)) result }
 {
-    let z = as_integer(v).ok_or(Refusal::WrongKind)?;
-    in_range(in_signed(size, z), z)
-}
-
-// I L
-fn unsigned(size: u64, v: Value) -> Result<u64, Refusal>
-    requires { Proper v }
-    ensures { (l : List ℕ) → Says size (fields.word kinds.Unsigned size (meaning l v)) result }
-{
-    let z = as_integer(v).ok_or(Refusal::WrongKind)?;
-    in_range(in_unsigned(size, z), z)
+    let z = integer(v)?;
+    in_range(signed, size, z)
 }
 
 // j: an integer, or a float's bits.
@@ -74,7 +91,7 @@ fn lua_integer(v: Value) -> Result<u64, Refusal>
 {
     match as_integer(v) {
         Some(z) => Ok(to_word(z)),
-        None => as_number(v).ok_or(Refusal::WrongKind),
+        None => number(v),
     }
 }
 
@@ -84,8 +101,8 @@ fn lua_unsigned(v: Value) -> Result<u64, Refusal>
     ensures { (l : List ℕ) → Says 8 (fields.word kinds.LuaUnsigned 8 (meaning l v)) result }
 {
     match as_integer(v) {
-        Some(z) => in_range(in_unsigned(8, z), z),
-        None => as_number(v).ok_or(Refusal::WrongKind),
+        Some(z) => in_range(false, 8, z),
+        None => number(v),
     }
 }
 
@@ -105,19 +122,11 @@ fn single(v: Value) -> Result<u64, Refusal>
     requires { Proper v }
     ensures { (l : List ℕ) (n : ℕ) → n ≤ 8 → Says n (fields.word kinds.Single n (meaning l v)) result }
 {
-    let b = as_number(v).ok_or(Refusal::WrongKind)?;
+    let b = number(v)?;
     Ok(u64::from(to_single(b)))
 }
 
-// d n: a number's bits.
-fn double(v: Value) -> Result<u64, Refusal>
-    requires { Proper v }
-    ensures { (l : List ℕ) (n : ℕ) → n ≤ 8 → Says n (fields.word kinds.Double n (meaning l v)) result }
-{
-    as_number(v).ok_or(Refusal::WrongKind)
-}
-
-// The word of a value: 12, 13.
+// The word of a value: 12, 13. d and n are a number's bits.
 pub fn word_of(kind: Kind, size: u64, v: Value) -> Result<u64, Refusal>
     requires proper { Proper v }
     requires valid_size { T (valid_size kind size) }
@@ -126,12 +135,12 @@ pub fn word_of(kind: Kind, size: u64, v: Value) -> Result<u64, Refusal>
     match kind {
         Kind::SmallSigned => any_integer(v),
         Kind::SmallUnsigned => any_integer(v),
-        Kind::Signed => signed(size, v),
-        Kind::Unsigned => unsigned(size, v),
+        Kind::Signed => ranged(true, size, v),
+        Kind::Unsigned => ranged(false, size, v),
         Kind::LuaInteger => lua_integer(v),
         Kind::LuaUnsigned => lua_unsigned(v),
         Kind::Size => size_word(v),
         Kind::Single => single(v),
-        Kind::Double => double(v),
+        Kind::Double => number(v),
     }
 }

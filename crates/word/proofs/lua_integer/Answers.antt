@@ -1,14 +1,10 @@
 -- The integer that was found, or a float's bits.
-use mathlib.Core.Path.{sym, ap, ◌∙◌}
-use Rattle.word.specs.Words.{pattern_or}
-use Rattle.word.proofs.Words.{says_integer, says_as, of_integer, of_none}
-use native.Mathlib.Omega.{arith}
+use Rattle.std.proofs.Common.{sym, arith}
+use Rattle.word.proofs.Words.{says_integer, says_bits, of_integer, of_none}
 use Rattle.word.proofs.lua_integer.Goals as goal
 
-pub returns-in-Integer : goal.returns-in-Integer
-returns-in-Integer c =
-    λ l n h. says_integer n _ _ (omega arith) c.to_word.ensures (of_integer n _ _ (sym (c.in-Integer.ensures l))).lua
+pub returns-in-Some : goal.returns-in-Some
+returns-in-Some c = λ l n h. says_integer n _ _ (omega arith) c.to_word.ensures (of_integer n _ _ (sym (c.in-Some.ensures l))).lua
 
-pub returns-in-Nothing : goal.returns-in-Nothing
-returns-in-Nothing c =
-    λ l n h. says_as n c.pattern.result (c.pattern.ensures.0 n h) ((of_none n _ (sym (c.in-Nothing.ensures l))).lua ∙ sym (ap pattern_or (c.as_number.ensures l)))
+pub returns-in-None : goal.returns-in-None
+returns-in-None c = λ l n h. says_bits n _ c.number.result h (c.number.ensures l) (of_none n _ (sym (c.in-None.ensures l))).lua

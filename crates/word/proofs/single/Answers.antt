@@ -1,15 +1,16 @@
 -- The number that was found, rounded, or 12.
-use Prim.Native.Nat.{ℕ}
-use mathlib.Core.Path.{sym, ap, ◌∙◌}
-use lib.IntN.{pos}
-use Rattle.definition.specs.Answers.{accepted}
-use Rattle.word.proofs.Words.{says_pattern, says_refused, single_word, single_none}
+use Rattle.std.proofs.Common.{ℕ, pos, sym, ap, ◌∙◌}
+use Rattle.std.proofs.lemmas.Result.{err_from_is_err_and}
+use Rattle.single.specs.Single.{to_single}
+use Rattle.definition.specs.Answers.{Checked, accepted, ◌>>=◌}
+use Rattle.word.proofs.Words.{says_pattern, says_refused, single_is}
 use Rattle.word.proofs.single.Goals as goal
 
-pub returns-in-Bits : goal.returns-in-Bits
-returns-in-Bits c =
-    λ l n h. says_pattern n _ h (single_word _ _ n (sym (c.in-Bits.ensures l)) ∙ ap (λ (x : ℕ). accepted (pos x)) (sym c.to_single.ensures))
+pub returns-in_err-b : goal.returns-in_err-b
+returns-in_err-b c =
+    let p = err_from_is_err_and c.from_residual.result c.from_residual.ensures.1 in
+    λ l n h. rw (p.1, p.2) (says_refused n _ (single_is n _ ∙ ap (λ (x : Checked ℕ). x >>= λ b. accepted (pos (to_single b))) (sym (c.in_err-b.ensures l))))
 
-pub returns-in-Nothing : goal.returns-in-Nothing
-returns-in-Nothing c =
-    λ l n h. says_refused n _ (single_none _ n (sym (c.in-Nothing.ensures l)))
+pub returns : goal.returns
+returns c =
+    λ l n h. says_pattern n _ h (single_is n _ ∙ ap (λ (x : Checked ℕ). x >>= λ b. accepted (pos (to_single b))) (sym (c.in_ok-b.ensures l)) ∙ rw (c.from.ensures, c.to_single.ensures))

@@ -1,14 +1,13 @@
 -- The integer that was found, or a float modulo 2^64.
-use mathlib.Core.Path.{sym, ap, ◌∙◌}
-use Rattle.word.specs.Words.{pattern_or}
-use Rattle.word.proofs.Words.{says_integer, says_as, of_integer, of_none}
-use native.Mathlib.Omega.{arith}
+use Rattle.std.proofs.Common.{sym, ap, ◌∙◌, arith}
+use mathlib.Core.Option.{Option}
+use Rattle.definition.specs.Answers.{refused, or_else}
+use Rattle.word.proofs.Words.{says_integer, says_bits, of_kind_12, of_integer, of_none}
 use Rattle.word.proofs.size_word.Goals as goal
 
-pub returns-in-Integer : goal.returns-in-Integer
-returns-in-Integer c =
-    λ l n h. says_integer n _ _ (omega arith) c.to_word.ensures (of_integer n _ _ (sym (c.in-Integer.ensures l))).size
+pub returns-in-Some : goal.returns-in-Some
+returns-in-Some c = λ l n h. says_integer n _ _ (omega arith) c.to_word.ensures (of_integer n _ _ (sym (c.in-Some.ensures l))).size
 
-pub returns-in-Nothing : goal.returns-in-Nothing
-returns-in-Nothing c =
-    λ l n h. says_as n c.pattern.result (c.pattern.ensures.0 n h) ((of_none n _ (sym (c.in-Nothing.ensures l))).size ∙ sym (ap pattern_or (c.as_wrapped.ensures l)))
+pub returns-in-None : goal.returns-in-None
+returns-in-None c =
+    λ l n h. rw c.ok_or.ensures.value (says_bits n _ _ h (of_kind_12 c.as_wrapped.result ∙ ap (λ (m : Option _). or_else m (refused 12)) (c.as_wrapped.ensures l)) (of_none n _ (sym (c.in-None.ensures l))).size)
