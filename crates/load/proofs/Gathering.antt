@@ -1,5 +1,9 @@
 -- Laws of reading: the loop that gathers the low bytes, the loop that passes the bytes above eight, and the answers.
-use Rattle.std.proofs.Common.{◌≡◌, ℕ, ◌+◌, ◌*◌, ◌%◌, ◌^◌, ◌<◌, ◌≤◌, Bool, true, false, ◌&&◌, eqb, List, length, get_or, take, drop, ℤ, sym, refl, ap, ◌∙◌, lt_of_lt_of_le, add-one, arith, lit<, drop_of_length-le, drop-cons, eq-eqb, ne_eqb}
+use Rattle.std.proofs.Common.{◌≡◌, ℕ, ◌+◌, ◌*◌, ◌%◌, ◌^◌, ◌<◌, ◌≤◌, Bool, true, false, ◌&&◌, eqb, List, [], ◌∷◌, length, get_or, take, drop, length-drop, get_or-drop, zero, suc, ◌-◌, ℤ, sym, refl, ap, ◌∙◌, lt_of_lt_of_le, add-one, arith, lit<, drop_of_length-le, drop-cons, eq-eqb, ne_eqb}
+use Rattle.std.specs.Prelude.{MatchBool}
+use Rattle.std.specs.List.{AllWithin, HoldsAt, range_with_len}
+use Rattle.std.proofs.lemmas.List.FromFn.{length-range_with_len, get_or-range_with_len}
+use borrow.Table.Steps.{cases}
 use native.Mathlib.Nat.{pow-le-pow_right}
 use native.Mathlib.Decide.{dec_lt}
 use Rattle.definition.specs.Answers.{refused, accepted, require, ◌>>◌}
@@ -26,12 +30,6 @@ pub record Gathered (o : Bool) (n at : ℕ) (d : List ℕ) (v k : ℕ) : Type 0 
   pub below : v < 256 ^ k
   pub within : k ≤ low n
 
--- its bytes above eight and below k are all f, so those from k on decide
-pub record Passed (o : Bool) (n at : ℕ) (d : List ℕ) (f k : ℕ) : Type 0 where
-  pub inside : Inside o n at d
-  pub same : all f (high_bytes o n (drop at d)) ≡ all f (drop k (digits o n at d))
-  pub above : 8 ≤ k
-
 module _ {o : Bool} {n at : ℕ} {d : List ℕ} (i : Inside o n at d) where
   length_all : length (digits o n at d) ≡ n
   length_all = length_ordered o (take n (drop at d)) ∙ length_part n at d i.ends
@@ -45,19 +43,6 @@ module _ {o : Bool} {n at : ℕ} {d : List ℕ} (i : Inside o n at d) where
   pub gathered_none : Gathered o n at d 0 0
   unfolding total
   gathered_none = record { inside = i; sum = refl; below = lit< tt; within = omega arith }
-
-  past : (f k : ℕ) → n ≤ k → all f (drop k (digits o n at d)) ≡ true
-  past f k l = ap (all f) (drop_of_length-le (digits o n at d) {i = k} (omega (arith, length_all)))
-
-  -- below eight bytes there are none above
-  pub passed_none : (f : ℕ) → Passed o n at d f 8
-  passed_none f = record { inside = i; same = go (dec_lt n 8); above = omega arith }
-    where
-      go : Dec (n < 8) → all f (high_bytes o n (drop at d)) ≡ all f (drop 8 (digits o n at d))
-      go (yes l) =
-          let e : low n ≡ n = omega arith in
-          rw e (past f n (omega arith) ∙ sym (past f 8 (omega arith)))
-      go (no l) = let e : low n ≡ 8 = omega arith in rw e
 
 module _ {o : Bool} {n at : ℕ} {d : List ℕ} {v k : ℕ} (g : Gathered o n at d v k) where
   -- the byte k, which stands at p, is added
@@ -84,20 +69,38 @@ module _ {o : Bool} {n at : ℕ} {d : List ℕ} {v k : ℕ} (g : Gathered o n at
   pub gathered_all : low n ≤ k → (v ≡ total (low_bytes o n (drop at d))) × (v < 256 ^ low n)
   gathered_all h = let e : k ≡ low n = omega arith in (g.sum ∙ ap (λ (i : ℕ). total (take i (digits o n at d))) e, rw e at g.below)
 
-module _ {o : Bool} {n at : ℕ} {d : List ℕ} {f k : ℕ} (g : Passed o n at d f k) where
-  -- the byte k, which stands at p, is f or not
-  module _ {p : ℕ} (l : k < n) (e : p ≡ place_of o n k) where
-    next : all f (high_bytes o n (drop at d)) ≡ (eqb (get_or d (at + p) 0) f && all f (drop (k + 1) (digits o n at d)))
-    next = g.same ∙ rw (drop-cons (digits o n at d) k 0 (omega (arith, length_all g.inside)), byte_at g.inside k p l e, add-one k)
+-- ---- whether each byte of a list is f
+all_true : (f : ℕ) (l : List ℕ) → ((j : ℕ) → j < length l → get_or l j 0 ≡ f) → all f l ≡ true
+all_true f [] h = refl
+all_true f (b ∷ l) h = rw (eq-eqb b f (h 0 (omega arith))) (all_true f l (λ j k. h (suc j) (omega (arith, k))))
 
-    pub passed_more : get_or d (at + p) 0 ≡ f → Passed o n at d f (k + 1)
-    passed_more u = record { inside = g.inside; same = next ∙ rw (eq-eqb _ f u); above = omega arith }
+all_false : (f : ℕ) (l : List ℕ) (j : ℕ) → j < length l → (get_or l j 0 ≡ f → ⊥) → all f l ≡ false
+all_false f [] j k h = absurd (omega (arith, k))
+all_false f (b ∷ l) zero k h = rw (ne_eqb b f h)
+all_false f (b ∷ l) (suc j) k h = rw (all_false f l j (omega (arith, k)) h) (cases (eqb b f) (λ q. rw q) (λ q. rw q))
 
-    pub passed_other : (get_or d (at + p) 0 ≡ f → ⊥) → false ≡ all f (high_bytes o n (drop at d))
-    passed_other u = sym (next ∙ rw (ne_eqb _ f u))
+-- the bytes above eight, by the places from the eighth on
+module _ {o : Bool} {n at : ℕ} {d : List ℕ} (i : Inside o n at d) (f : ℕ) where
+  high_length : length (high_bytes o n (drop at d)) ≡ n - 8
+  high_length = length-drop (low n) (digits o n at d) ∙ omega (arith, length_all i)
 
-  pub passed_all : n ≤ k → true ≡ all f (high_bytes o n (drop at d))
-  passed_all l = sym (g.same ∙ past g.inside f k l)
+  high_at : (j : ℕ) → j < n - 8 → get_or (high_bytes o n (drop at d)) j 0 ≡ get_or d (at + place_of o n (8 + j)) 0
+  high_at j l =
+      let e : low n ≡ 8 = omega arith in
+      rw e (get_or-drop 8 (digits o n at d) j 0 ∙ byte_at i (8 + j) (place_of o n (8 + j)) (omega arith) refl)
+
+  pub filled : (r : Bool)
+      → MatchBool r
+      (AllWithin (λ k. get_or d (at + place_of o n k) 0 ≡ f) (range_with_len 8 (n - 8)) 0 (length (range_with_len 8 (n - 8))))
+      ((k : ℕ) × (k < length (range_with_len 8 (n - 8))) × HoldsAt (λ k. get_or d (at + place_of o n k) 0 ≡ f → ⊥) (range_with_len 8 (n - 8)) k)
+      → r ≡ all f (high_bytes o n (drop at d))
+  filled true y =
+      sym (all_true f (high_bytes o n (drop at d)) (λ j h.
+      let l : j < n - 8 = omega (arith, high_length) in
+      high_at j l ∙ (rw (get_or-range_with_len 8 (n - 8) j 0 l) at (y j 0 (omega arith) (omega (arith, length-range_with_len 8 (n - 8)))))))
+  filled false y =
+      let l : y.0 < n - 8 = omega (arith, y.1, length-range_with_len 8 (n - 8)) in
+      sym (all_false f (high_bytes o n (drop at d)) y.0 (omega (arith, high_length)) (λ e. (rw (get_or-range_with_len 8 (n - 8) y.0 0 l) at (y.2 0)) (sym (high_at y.0 l) ∙ e)))
 
 -- ---- the answers: v is the number of the low bytes, and t says whether those above are the fill
 module _ {o : Bool} {n at : ℕ} {d : List ℕ} (i : Inside o n at d) where

@@ -1,7 +1,7 @@
 -- Laws of digits at a place, and of what the readers of a numeral answer.
 use Prim.Native.Nat.{ℕ, zero, suc, ◌+◌, ◌*◌, ◌-◌, ◌^◌, ◌≤◌, ◌<◌}
 use mathlib.Core.Path.{◌≡◌, refl, sym, ap, ◌∙◌}
-use mathlib.Core.Bool.{Bool, true, false, cond}
+use mathlib.Core.Bool.{true, false, cond}
 use mathlib.Core.List.{List, [], ◌∷◌}
 use native.Mathlib.Nat.{add-zero, zero-add, le_refl, le_trans}
 use native.Mathlib.Numerals.{add-one}
@@ -13,10 +13,11 @@ use borrow.Author.Tests.{lt-ltb, le-ltb, ltb-false, leb-true, eqb-true, eqb-fals
 use borrow.Table.Steps.{cases}
 use Rattle.definition.specs.Items.{is_digit, digits, value, numeral_of}
 use Rattle.laws.proofs.Answers.{both_parts}
-use Rattle.numeral.specs.Numerals.{digit_first, grown, digit_on, read_on, scan_by, scanned, short_of}
-use Rattle.numeral.specs.declared.Digit.{Digit}
-use Rattle.numeral.specs.declared.Scan.{Scan}
-use Rattle.numeral.specs.declared.Scan.TheVariants.{Missing, TooLarge, Value}
+use Rattle.std.specs.Prelude.{Option, Some, None, Result, Ok, Err, MatchOption, unwrap_or}
+use Rattle.std.specs.List.{AllWithin, HoldsAt}
+use Rattle.definition.specs.declared.Refusal.{Refusal}
+use Rattle.numeral.specs.Numerals.{digit_first, grown, digit_on, read_on, numeral, reached, read_of, short_of}
+use Rattle.numeral.specs.declared.Numeral.{Numeral}
 use Rattle.numeral.specs.declared.Short.TheVariants as Short
 
 -- the bytes from a place on: the byte there, and those from the next place on
@@ -81,12 +82,28 @@ pub zero_passed : (s : List ℕ) (i : ℕ) → i < length s → get_or s i 0 ≡
 unfolding value
 zero_passed s i h e = let d = first_at s i h ∙ ap is_digit e in (rw (digits_more s i d, e), digit_length s i d)
 
+-- zeros in front change no value, and no end
+zeros_passed : (s : List ℕ) (k : ℕ) → k ≤ length s → AllWithin (λ b. b ≡ 48) s 0 k
+    → (value 0 (digits (drop k s)) ≡ value 0 (digits s)) × (k + length (digits (drop k s)) ≡ length (digits s))
+zeros_passed s zero h z = (refl, zero-add (length (digits s)))
+zeros_passed s (suc k) h z =
+    let p = rw (add-one k) at (zero_passed s k (omega arith) (z k 0 (omega arith) (omega arith))) in
+    let r = zeros_passed s k (omega arith) (λ i d a b. z i d a (omega arith)) in
+    (p.0 ∙ r.0, p.1 ∙ r.1)
+
+-- those before the first byte that is no zero
+pub first_other : (s : List ℕ) (r : Option ℕ)
+    → MatchOption r (AllWithin (λ b. b ≡ 48) s 0 (length s)) (λ i. (i < length s) × HoldsAt (λ b. b ≡ 48 → ⊥) s i × AllWithin (λ b. b ≡ 48) s 0 i)
+    → let k = unwrap_or r (length s) in (value 0 (digits (drop k s)) ≡ value 0 (digits s)) × (k + length (digits (drop k s)) ≡ length (digits s))
+first_other s None z = zeros_passed s (length s) (le_refl (length s)) z
+first_other s (Some i) z = zeros_passed s i (omega (arith, z.0)) z.2
+
 -- ---- the next digit
-pub on_end : (n : ℕ) (s : List ℕ) (left : ℕ) → left ≡ 0 → digit_on n (take left s) ≡ Digit.Stop
+pub on_end : (n : ℕ) (s : List ℕ) (left : ℕ) → left ≡ 0 → digit_on n (take left s) ≡ Ok None
 unfolding digit_on
 on_end n s left e = rw e
 
-pub on_stop : (n : ℕ) (s : List ℕ) (left : ℕ) → digit_first s ≡ false → digit_on n (take left s) ≡ Digit.Stop
+pub on_stop : (n : ℕ) (s : List ℕ) (left : ℕ) → digit_first s ≡ false → digit_on n (take left s) ≡ Ok None
 unfolding digit_on
 on_stop n s zero e = refl
 on_stop n [] (suc left) e = refl
@@ -97,12 +114,12 @@ unfolding digit_on
 on_digit n s at left l e = rw (left_at s at left (first_inside s at e) l, first_digit s at e)
 
 -- a further digit has a byte
-on_some : (n : ℕ) (s : List ℕ) (m : ℕ) → digit_on n s ≡ Digit.More m → 0 < length s
+on_some : (n : ℕ) (s : List ℕ) (m : ℕ) → digit_on n s ≡ Ok (Some m) → 0 < length s
 unfolding digit_on
 on_some n [] m e = let z : ◌≡◌ {A = ℕ} 0 1 = cc in omega arith
 on_some n (b ∷ s) m e = omega arith
 
-pub more_inside : (n : ℕ) (s : List ℕ) (at left m : ℕ) → digit_on n (take left (drop at s)) ≡ Digit.More m → (at < length s) × (0 < left)
+pub more_inside : (n : ℕ) (s : List ℕ) (at left m : ℕ) → digit_on n (take left (drop at s)) ≡ Ok (Some m) → (at < length s) × (0 < left)
 more_inside n s at left m e =
     let h : 0 < length (take left (drop at s)) = on_some n (take left (drop at s)) m e in
     let k = rw (length-take, length-drop) at h in
@@ -111,17 +128,17 @@ more_inside n s at left m e =
 -- ---- the digits from a place on
 
 -- what the next digit decides
-abbrev pub onward : ℕ → ℕ → List ℕ → Digit → Scan
-onward n at s Digit.Stop = Value n at
-onward n at s Digit.TooLarge = TooLarge
-onward n at s (Digit.More m) = read_on m (at + 1) (digits (drop 1 s))
+abbrev pub onward : ℕ → ℕ → List ℕ → Result (Option ℕ) Refusal → Result Numeral Refusal
+onward n at s (Ok None) = Ok (numeral n at)
+onward n at s (Ok (Some m)) = read_on m (at + 1) (digits (drop 1 s))
+onward n at s (Err r) = Err r
 
 le_value : (n : ℕ) (ds : List ℕ) → n ≤ value n ds
 unfolding value
 le_value n [] = le_refl n
 le_value n (d ∷ ds) = omega (arith, le_value (n * 10 + (d - 48)) ds)
 
-read_none : (n at : ℕ) → n < 2 ^ 64 → read_on n at [] ≡ Value n at
+read_none : (n at : ℕ) → n < 2 ^ 64 → read_on n at [] ≡ Ok (numeral n at)
 unfolding read_on value
 read_none n at h = rw (lt-ltb n (2 ^ 64) h, add-zero)
 
@@ -143,45 +160,54 @@ pub left_behind : (s : List ℕ) (at left : ℕ) → at < length s → 0 < left 
 left_behind s at left h l = rw (left_at s at left h l)
 
 -- ---- the numeral at the front
-abbrev pub scan_of : List ℕ → Scan
-scan_of s = scanned (numeral_of (digits s)) (length (digits s))
+abbrev pub front_of : List ℕ → Result (Option Numeral) Refusal
+front_of s = read_of (numeral_of (digits s)) (length (digits s))
 
-pub scan_none : (s : List ℕ) → digit_first s ≡ false → scan_of s ≡ Missing
+-- what is read where a digit stands at the front
+abbrev pub found : Result Numeral Refusal → Result (Option Numeral) Refusal
+found (Ok n) = Ok (Some n)
+found (Err r) = Err r
+
+pub front_none : (s : List ℕ) → digit_first s ≡ false → front_of s ≡ Ok None
 unfolding numeral_of
-scan_none s e = rw (digits_stop s e)
+front_none s e = rw (digits_stop s e)
 
-scan_cons : (d : ℕ) (ds : List ℕ) → scanned (numeral_of (d ∷ ds)) (length (d ∷ ds)) ≡ read_on 0 0 (d ∷ ds)
+front_cons : (d : ℕ) (ds : List ℕ) → read_of (numeral_of (d ∷ ds)) (length (d ∷ ds)) ≡ found (read_on 0 0 (d ∷ ds))
 unfolding numeral_of read_on
-scan_cons d ds = cases (ltb (value 0 (d ∷ ds)) (2 ^ 64)) (λ q. rw (q, zero-add)) (λ q. rw q)
+front_cons d ds = cases (ltb (value 0 (d ∷ ds)) (2 ^ 64)) (λ q. rw (q, zero-add)) (λ q. rw q)
 
-scan_some : (s : List ℕ) → digit_first s ≡ true → scan_of s ≡ read_on 0 0 (digits s)
-scan_some s e = rw (digits_more s 0 e) (scan_cons (get_or s 0 0) (digits (drop 1 s)))
+front_some : (s : List ℕ) → digit_first s ≡ true → front_of s ≡ found (read_on 0 0 (digits s))
+front_some s e = rw (digits_more s 0 e) (front_cons (get_or s 0 0) (digits (drop 1 s)))
 
 read_same : (i at : ℕ) (s t : List ℕ) → value 0 s ≡ value 0 t → i + length s ≡ at + length t → read_on 0 i s ≡ read_on 0 at t
 unfolding read_on
 read_same i at s t e f = rw (e, f)
 
 -- the rest of a numeral, past its zeros, with all bytes left
-pub scan_rest : (s : List ℕ) (i : ℕ) → digit_first s ≡ true
+pub front_rest : (s : List ℕ) (i : ℕ) → digit_first s ≡ true
     → value 0 (digits (drop i s)) ≡ value 0 (digits s)
     → i + length (digits (drop i s)) ≡ length (digits s)
-    → read_on 0 i (digits (take (length s - i) (drop i s))) ≡ scan_of s
-scan_rest s i d ev el =
-    ap (λ (l : List ℕ). read_on 0 i (digits l)) (part_rest i s)
-    ∙ read_same i 0 (digits (drop i s)) (digits s) ev (el ∙ sym (zero-add (length (digits s)))) ∙ sym (scan_some s d)
+    → found (read_on 0 i (digits (take (length s - i) (drop i s)))) ≡ front_of s
+front_rest s i d ev el =
+    ap (λ (l : List ℕ). found (read_on 0 i (digits l))) (part_rest i s)
+    ∙ ap found (read_same i 0 (digits (drop i s)) (digits s) ev (el ∙ sym (zero-add (length (digits s))))) ∙ sym (front_some s d)
 
 -- ---- what a numeral shows at once
 pub short_none : (s : List ℕ) → digit_first s ≡ false → short_of (digits s) ≡ Short.Missing
 short_none s e = rw (digits_stop s e)
 
+abbrev value_of : Result Numeral Refusal → ℕ
+value_of (Ok m) = m.value
+value_of (Err r) = 0
+
 -- the number that one digit makes
-digit_made : (d at : ℕ) (t : Bool) (n i : ℕ) → is_digit d ≡ true → d ≤ 57 → scan_by t n i ≡ read_on 0 at (digits (d ∷ [])) → n ≡ d - 48
+digit_made : {A : Type 0} (d at : ℕ) (t : Result A Refusal) (n i : ℕ) → is_digit d ≡ true → d ≤ 57 → reached t n i ≡ read_on 0 at (digits (d ∷ [])) → n ≡ d - 48
 unfolding digits read_on value
-digit_made d at true n i e h q =
+digit_made d at (Ok u) n i e h q =
     let r = rw (e, lt-ltb (0 * 10 + (d - 48)) (2 ^ 64) (omega arith)) at q in
-    let v : n ≡ 0 * 10 + (d - 48) = cc in
+    let v : n ≡ 0 * 10 + (d - 48) = ap value_of r in
     omega arith
-digit_made d at false n i e h q =
+digit_made d at (Err r) n i e h q =
     let r = rw (e, lt-ltb (0 * 10 + (d - 48)) (2 ^ 64) (omega arith)) at q in
     let z : ◌≡◌ {A = ℕ} 0 1 = cc in
     absurd (omega arith)
@@ -191,8 +217,8 @@ module _ (s : List ℕ) (at : ℕ) (e : digit_first (drop at s) ≡ true) where
   short_long f = rw (digits_more s at e, digits_more s (at + 1) f)
 
   -- no digit follows, and n was read with one byte left
-  module _ (f : digit_first (drop (at + 1) s) ≡ false) (t : Bool) (n i : ℕ)
-      (q : scan_by t n i ≡ read_on 0 at (digits (take 1 (drop at s)))) where
+  module _ (f : digit_first (drop (at + 1) s) ≡ false) {A : Type 0} (t : Result A Refusal) (n i : ℕ)
+      (q : reached t n i ≡ read_on 0 at (digits (take 1 (drop at s)))) where
     alone : digits (drop at s) ≡ get_or s at 0 ∷ []
     alone = rw (digits_more s at e, digits_stop (drop (at + 1) s) f)
 

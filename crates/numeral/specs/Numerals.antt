@@ -1,5 +1,5 @@
 -- What the readers of a numeral answer.
-use Rattle.std.specs.Prelude.{ℕ, ◌+◌, ◌*◌, ◌-◌, ◌^◌, Bool, true, false, cond, List, [], ◌∷◌, ltb, eqb, length, Option, Some, None, Result, Ok, Err}
+use Rattle.std.specs.Prelude.{ℕ, ◌+◌, ◌*◌, ◌-◌, ◌^◌, Bool, false, cond, List, [], ◌∷◌, ltb, eqb, length, Option, Some, None, Result, Ok, Err}
 use Prim.Native.Char.{code}
 use Rattle.definition.specs.Items.{is_digit, value}
 use Rattle.definition.specs.Items as items

@@ -2,13 +2,15 @@
 use Rattle.std.proofs.Common.{◌≡◌, ℕ, ◌+◌, ◌-◌, ◌*◌, ◌^◌, ◌≤◌, ◌<◌, true, List, get_or, take, drop, sym, ◌∙◌, arith}
 use borrow.Author.Tests.{lt-ltb, le-ltb}
 use Rattle.numeral.proofs.Digits.{on_end, on_stop, on_digit}
-use Rattle.numeral.specs.declared.Digit.TheVariants.{TooLarge, More}
+use Rattle.std.specs.Prelude.{Some, Ok, Err}
+use Rattle.definition.specs.declared.Refusal.TheVariants.{NumeralTooLarge}
 use Rattle.numeral.specs.Numerals.{digit_first, digit_on, grown}
 use Rattle.numeral.proofs.digit_on.Goals as goal
+use Rattle.numeral.proofs.digit_on.Goals.{then-left-eq0-via-then-left-eq0, then-left-eq0-via-else-left-eq0+then-not-digit_at}
 
 -- a digit that stands there decides by its number
 grows : (n at left d : ℕ) (s : List ℕ) → 0 < left → digit_first (drop at s) ≡ true → d ≡ get_or s at 0 - 48
-    → (2 ^ 64 ≤ n * 10 + d → TooLarge ≡ digit_on n (take left (drop at s))) × (n * 10 + d < 2 ^ 64 → More (n * 10 + d) ≡ digit_on n (take left (drop at s)))
+    → (2 ^ 64 ≤ n * 10 + d → Err NumeralTooLarge ≡ digit_on n (take left (drop at s))) × (n * 10 + d < 2 ^ 64 → Ok (Some (n * 10 + d)) ≡ digit_on n (take left (drop at s)))
 grows n at left d s l e q =
     let m = n * 10 + d in
     let g : digit_on n (take left (drop at s)) ≡ grown m = rw q (on_digit n s at left l e) in
@@ -16,11 +18,11 @@ grows n at left d s l e q =
 
 pub returns-then-left-eq0 : goal.returns-then-left-eq0
 returns-then-left-eq0 c =
-    sym (on_end _ _ _ c.if-left-eq0.true)
-
-pub returns-then-not-digit_at : goal.returns-then-not-digit_at
-returns-then-not-digit_at c =
-    let a = c.args in sym (on_stop a.n (drop a.at a.text.now) a.left (sym c.digit_at.ensures ∙ c.if-not-digit_at.true))
+    let a = c.args in
+    elim c.then-left-eq0.branch [
+      | then-left-eq0-via-then-left-eq0 w ↦ sym (on_end _ _ _ w.if-left-eq0.true)
+      | then-left-eq0-via-else-left-eq0+then-not-digit_at w ↦ sym (on_stop a.n (drop a.at a.text.now) a.left (sym w.digit_at.ensures ∙ w.if-not-digit_at.true))
+    ]
 
 pub returns-then-n : goal.returns-then-n
 returns-then-n c =

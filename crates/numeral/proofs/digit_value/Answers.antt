@@ -7,6 +7,6 @@ pub bounds-text-at : goal.bounds-text-at
 bounds-text-at c =
     first_inside _ _ c.requires
 
-pub overflow_sub-result : goal.overflow_sub-result
-overflow_sub-result c =
+pub overflow_sub-text : goal.overflow_sub-text
+overflow_sub-text c =
     let a = c.args in omega (arith, first_byte a.text.now a.at c.requires)

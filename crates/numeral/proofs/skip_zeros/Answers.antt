@@ -1,21 +1,13 @@
--- A byte passed is a zero, which changes no value, and no end.
-use Prim.Native.Nat.{◌<◌}
-use mathlib.Core.Path.{◌≡◌, refl, ◌∙◌}
-use native.Mathlib.Nat.{zero-add}
-use native.Mathlib.Omega.{arith}
-use lib.ListN.{length, get_or}
-use Rattle.numeral.proofs.Digits.{zero_passed}
+-- The bytes before the first that is no zero change no value, and no end.
+use Rattle.std.proofs.Common.{◌≡◌, rules, tests}
+use Rattle.std.proofs.lemmas.Iterator.{IsFirst-from_position, YieldsList-from_slice}
+use Rattle.numeral.proofs.Digits.{first_other}
 use Rattle.numeral.proofs.skip_zeros.Goals as goal
+use Rattle.numeral.proofs.skip_zeros.Goals.{After-unwrap_or}
 
-pub loop-i-init : goal.loop-i-init
-loop-i-init c =
-    (refl, zero-add _)
-
-pub loop-i-preserved : goal.loop-i-preserved
-loop-i-preserved c =
+pub returns : goal.returns
+returns c =
     let s = c.args.text.now in
-    let l = c.loop-i in
-    let h : l.i < length s = omega arith in
-    let zero : get_or s l.i 0 ≡ 48 = omega arith in
-    let z = zero_passed s l.i h zero in
-    (z.0 ∙ l.invariant.0, z.1 ∙ l.invariant.1)
+    let is_first = IsFirst-from_position _ _ c.position.result (λ b. b ≡ 48 → ⊥) (λ b. b ≡ 48) c.position.ensures.ran (YieldsList-from_slice s c.iter.ensures.rest) (λ x q k. search (rules, tests)) (λ x q k. search (rules, tests)) in
+    let z = rw (← c.unwrap_or.ensures) at (first_other s c.position.result is_first) in
+    record { same = z.0; ends = z.1 }
