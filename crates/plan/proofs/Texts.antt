@@ -1,9 +1,11 @@
 -- The bytes of a text option are what the definition encodes, and without a text there are 11 and 12.
-use Prim.Native.Nat.{ℕ, suc, ◌+◌, ◌-◌, ◌^◌, ◌≤◌, ◌<◌}
+use Prim.Native.Nat.{ℕ, ◌+◌, ◌-◌, ◌^◌, ◌≤◌, ◌<◌}
 use native.Mathlib.Omega.{arith}
-use mathlib.Core.Path.{◌≡◌, sym, ap, ◌∙◌, subst}
+use mathlib.Core.Path.{◌≡◌, sym, ap, ◌∙◌}
 use mathlib.Core.Bool.{Bool, true, false, ◌||◌, or-true}
-use mathlib.Core.List.{List, ◌∷◌}
+use mathlib.Core.List.{List}
+use mathlib.Core.Option.{none}
+use Rattle.std.specs.Prelude.{Ok, Err, Some, None}
 use lib.Dec.{T, ltb}
 use lib.ListN.{length, take, drop, get_or, replicate, length-append, length-drop, length-replicate}
 use lib.Seq.{length-take-le, drop-cons}
@@ -16,38 +18,33 @@ use Rattle.definition.specs.Values.{text, as_bytes}
 use Rattle.definition.specs.Lists.{values}
 use Rattle.definition.specs.Fields.{encode, has_zero}
 use Rattle.definition.specs.declared.Field.{Field}
+use Rattle.definition.specs.declared.Refusal.{Refusal}
 use Rattle.laws.proofs.Bytes.{pow_le, length_laid}
 use Rattle.laws.proofs.Numbers.{within_from_1}
-use Rattle.values.specs.Meaning.{meaning, Inside, FieldRead}
-use Rattle.values.specs.declared.Field.TheVariants as Found
+use Rattle.values.specs.Meaning.{meaning, FieldRead}
 use Rattle.values.specs.declared.Value.{Value}
 use Rattle.values.proofs.Fields.{takes_none, takes_first}
-use Rattle.plan.specs.Texts.{first_text, TextOf, TextAt, TextRead}
+use Rattle.plan.specs.Texts.{first_text, TextAt, TextRead}
 use Rattle.store.specs.Texts.{text_bytes, counted_bytes}
 use Rattle.plan.specs.declared.text.Text.{Text}
 
 -- ---- the text at an offset
 module _ (l : List ℕ) (at : ℕ) where
-  pub text_none : FieldRead l at Found.End → TextRead l at (Text.Refused 11)
+  pub text_none : FieldRead l at None → TextRead l at (Err Refusal.NoValueLeft)
   text_none h vs known = ap first_text (takes_none l at vs known h.says)
 
-  pub text_found : (v : Value) (next : ℕ) (r : Text) → FieldRead l at (Found.Found v next) → TextOf v next r → TextRead l at r
-  text_found v next (Text.Refused k) h (e, none_is) = λ vs known.
-      let t = takes_first l at vs known (meaning l v) next h.says in
-      rw (t.is, none_is l, e)
-  text_found v next (Text.At start n m) h (e, same_next) =
-      let inside : Inside l (Value.Text start n) = subst (Inside l) e h.sound.inside in
-      record {
-        within = inside.0;
-        short = inside.1;
-        found = λ vs known.
-            let t = takes_first l at vs known (meaning l v) next h.says in
-            record {
-              rest = t.others;
-              is = t.is ∙ ap (λ (x : Value). meaning l x ∷ t.others) e;
-              list = ap (λ (x : ℕ). values (drop x l)) same_next ∙ t.left;
-            };
-      }
+  module _ (v : Value) (next : ℕ) (h : FieldRead l at (Some (v, next))) where
+    pub text_other : as_bytes (meaning l v) ≡ none → TextRead l at (Err Refusal.WrongKind)
+    text_other e vs known = rw ((takes_first l at vs known (meaning l v) next h.says).is, e)
+
+  pub text_found : (start n next : ℕ) → FieldRead l at (Some (Value.Text start n, next)) → TextRead l at (Ok (record { start = start; length = n; next = next }))
+  text_found start n next h = record {
+    within = h.sound.inside.0;
+    short = h.sound.inside.1;
+    found = λ vs known.
+        let t = takes_first l at vs known (meaning l (Value.Text start n)) next h.says in
+        record { rest = t.others; is = t.is; list = t.left };
+  }
 
 -- ---- how many bytes a text has
 module _ (l : List ℕ) (start n : ℕ) (within : start + n ≤ length l) where
@@ -61,31 +58,31 @@ module _ (l : List ℕ) (start n : ℕ) (within : start + n ≤ length l) where
   counted_length o k = omega (arith, length-append (laid o k n 0) (take n (drop start l)), length_laid o k n 0, size)
 
 -- ---- what the definition encodes of a text that was found, or refuses
-module _ (o : Bool) {l : List ℕ} {at start n next : ℕ} (x : TextAt l at start n next) where
-  found_size : length (take n (drop start l)) ≡ n
-  found_size = size l start n x.within
+module _ (o : Bool) {l : List ℕ} {at : ℕ} {t : Text} (x : TextAt l at t) where
+  found_size : length (take t.length (drop t.start l)) ≡ t.length
+  found_size = size l t.start t.length x.within
 
-  pub chars_long : (m : ℕ) → m < n → encode o (Field.Chars m) (text (take n (drop start l))) ≡ refused 15
+  pub chars_long : (m : ℕ) → m < t.length → encode o (Field.Chars m) (text (take t.length (drop t.start l))) ≡ refused 15
   unfolding encode
-  chars_long m h = rw (found_size, lt-leb n m h)
+  chars_long m h = rw (found_size, lt-leb t.length m h)
 
-  pub chars_bytes : (m : ℕ) → n ≤ m → encode o (Field.Chars m) (text (take n (drop start l))) ≡ accepted (text_bytes l start n (m - n))
+  pub chars_bytes : (m : ℕ) → t.length ≤ m → encode o (Field.Chars m) (text (take t.length (drop t.start l))) ≡ accepted (text_bytes l t.start t.length (m - t.length))
   unfolding encode
-  chars_bytes m h = rw (found_size, le-leb n m h)
+  chars_bytes m h = rw (found_size, le-leb t.length m h)
 
-  pub zero_ended_zero : has_zero (take n (drop start l)) ≡ true → encode o Field.ZeroEnded (text (take n (drop start l))) ≡ refused 14
+  pub zero_ended_zero : has_zero (take t.length (drop t.start l)) ≡ true → encode o Field.ZeroEnded (text (take t.length (drop t.start l))) ≡ refused 14
   unfolding encode
   zero_ended_zero h = rw h
 
-  pub zero_ended_bytes : has_zero (take n (drop start l)) ≡ false → encode o Field.ZeroEnded (text (take n (drop start l))) ≡ accepted (text_bytes l start n 1)
+  pub zero_ended_bytes : has_zero (take t.length (drop t.start l)) ≡ false → encode o Field.ZeroEnded (text (take t.length (drop t.start l))) ≡ accepted (text_bytes l t.start t.length 1)
   unfolding encode
   zero_ended_bytes h = rw h
 
-  pub counted_long : (m : ℕ) → ltb n (256 ^ m) ≡ false → encode o (Field.Counted m) (text (take n (drop start l))) ≡ refused 15
+  pub counted_long : (m : ℕ) → ltb t.length (256 ^ m) ≡ false → encode o (Field.Counted m) (text (take t.length (drop t.start l))) ≡ refused 15
   unfolding encode
   counted_long m h = rw (found_size, h)
 
-  pub counted_bytes_lem : (m : ℕ) → ltb n (256 ^ m) ≡ true → encode o (Field.Counted m) (text (take n (drop start l))) ≡ accepted (counted_bytes o l m start n)
+  pub counted_bytes_lem : (m : ℕ) → ltb t.length (256 ^ m) ≡ true → encode o (Field.Counted m) (text (take t.length (drop t.start l))) ≡ accepted (counted_bytes o l m t.start t.length)
   unfolding encode
   counted_bytes_lem m h = rw (found_size, h)
 
@@ -107,17 +104,10 @@ no_text o (Field.Chars n) v k t e = rw e
 no_text o Field.ZeroEnded v k t e = rw e
 no_text o (Field.Counted n) v k t e = rw e
 
--- ---- zeros among the bytes of l from start, of which i are passed and n - i are left
-module _ (l : List ℕ) (start n i : ℕ) (within : start + n ≤ length l) (h : i < n) where
-  next_left : take (n - i) (drop (start + i) l) ≡ get_or l (start + i) 0 ∷ take (n - (i + 1)) (drop (start + (i + 1)) l)
-  next_left =
-      let one : n - i ≡ suc (n - (i + 1)) = omega arith in
-      let behind : suc (start + i) ≡ start + (i + 1) = omega arith in
-      rw (drop-cons l (start + i) 0 (omega arith), one, behind)
+-- ---- zeros among the bytes of s, of which i are passed: f is what was found before the next byte, and e whether there is one among all
+module _ (s : List ℕ) (i : ℕ) (h : i < length s) where
+  pub next_zero : (f : Bool) {g e : Bool} → get_or s i 0 ≡ 0 → g ≡ true → (f || has_zero (drop i s)) ≡ e → (g || has_zero (drop (i + 1) s)) ≡ e
+  next_zero f z is_true so = rw is_true (sym (or-true f) ∙ (rw (drop-cons s i 0 h, eq-eqb (get_or s i 0) 0 z) at so))
 
-  -- f is what was found before the byte, g what is found with it, and e whether there is a zero among all
-  pub next_zero : (f : Bool) {g e : Bool} → get_or l (start + i) 0 ≡ 0 → g ≡ true → (f || has_zero (take (n - i) (drop (start + i) l))) ≡ e → (g || has_zero (take (n - (i + 1)) (drop (start + (i + 1)) l))) ≡ e
-  next_zero f z is_true so = rw is_true (sym (or-true f) ∙ (rw (next_left, eq-eqb (get_or l (start + i) 0) 0 z) at so))
-
-  pub next_other : {f g e : Bool} → (get_or l (start + i) 0 ≡ 0 → ⊥) → g ≡ f → (f || has_zero (take (n - i) (drop (start + i) l))) ≡ e → (g || has_zero (take (n - (i + 1)) (drop (start + (i + 1)) l))) ≡ e
-  next_other z same so = rw same (rw (next_left, ne_eqb (get_or l (start + i) 0) 0 z) at so)
+  pub next_other : {f g e : Bool} → (get_or s i 0 ≡ 0 → ⊥) → g ≡ f → (f || has_zero (drop i s)) ≡ e → (g || has_zero (drop (i + 1) s)) ≡ e
+  next_other z same so = rw same (rw (drop-cons s i 0 h, ne_eqb (get_or s i 0) 0 z) at so)
