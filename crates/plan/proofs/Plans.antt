@@ -4,10 +4,12 @@ use native.Mathlib.Omega.{arith}
 use mathlib.Core.Path.{◌≡◌, refl, sym, ap, ◌∙◌, subst}
 use mathlib.Core.Bool.{true, false}
 use mathlib.Core.List.{List, [], ◌∷◌, ◌++◌, map}
+use Rattle.std.specs.Prelude.{Result, Ok, Err, Some, None}
 use lib.Dec.{leb}
 use lib.ListN.{length, take, drop}
 use borrow.Author.Tests.{leb-true}
 use Rattle.definition.specs.Answers.{refused, accepted}
+use Rattle.definition.specs.Refusals.{refusal_number}
 use Rattle.definition.specs.Bytes.{laid}
 use Rattle.definition.specs.Ops.{is_power}
 use Rattle.definition.specs.Values as definition
@@ -21,21 +23,20 @@ use Rattle.definition.specs.declared.Setting.{Setting}
 use Rattle.definition.specs.declared.Kind.{Kind}
 use Rattle.definition.specs.declared.Field.{Field}
 use Rattle.definition.specs.declared.Op.{Op}
+use Rattle.definition.specs.declared.Refusal.{Refusal}
 use Rattle.laws.proofs.Answers.{same, bound, passed}
 use Rattle.laws.proofs.Bytes.{length_laid}
 use Rattle.laws.proofs.Fills.{fill_of_lem}
 use Rattle.laws.proofs.Ops.{power_least, power_most}
 use Rattle.laws.proofs.Steps.{room_longer}
 use Rattle.values.specs.Meaning.{meaning, FieldRead}
-use Rattle.values.specs.declared.Field.TheVariants as Found
 use Rattle.values.specs.declared.Value.{Value}
 use Rattle.values.proofs.Fields.{takes_none, takes_first}
 use Rattle.word.specs.Words.{fill_of, Says}
 use Rattle.plan.specs.Texts.{first_text, TextAt, TextRead}
 use Rattle.plan.specs.Plans.{wrote, Encoded, Wrote, Padded, ItemPlan, ItemAt, NumberPlan, BytesPlan}
 use Rattle.plan.specs.declared.item.Plan.{Plan}
-use Rattle.plan.specs.declared.text.Text.TheVariants as Text
-use Rattle.word.specs.declared.Word.TheVariants as Word
+use Rattle.plan.specs.declared.text.Text.{Text}
 use Rattle.plan.proofs.Texts.{TextField, no_text}
 
 -- ---- padding is below 16
@@ -72,9 +73,9 @@ module _ (s : State) (vs : List definition.Value) (n k : ℕ) where
 
 -- ---- fields
 module _ (s : State) (f : Field) where
-  pub unaligned : (l : List ℕ) (at : ℕ) {j : ℕ} → padding s (natural f) ≡ refused j → ItemAt l at s (Op.Put f) (Plan.Refused j)
+  pub unaligned : (l : List ℕ) (at : ℕ) (r : Refusal) → padding s (natural f) ≡ refused (refusal_number r) → ItemAt l at s (Op.Put f) (Err r)
   unfolding write_op write_field
-  unaligned l at e vs known = rw e
+  unaligned l at r e vs known = rw e
 
   module _ (p : ℕ) (e : padding s (natural f) ≡ accepted p) where
     field_early : (vs : List definition.Value) (j : ℕ) → early s f ≡ refused j → wrote s vs (Op.Put f) ≡ refused j
@@ -121,11 +122,11 @@ module _ (l : List ℕ) (s : State) (vs : List definition.Value) (f : Field) (p 
 
 -- ---- numbers
 module _ (s : State) (p : ℕ) (k : Kind) (n : ℕ) (v : Value) (next : ℕ) where
-  pub number_refused : (j : ℕ) → ((l : List ℕ) → Says n (word k n (meaning l v)) (Word.Refused j)) → NumberPlan s p k n v next (Plan.Refused j)
+  pub number_refused : (r : Refusal) → ((l : List ℕ) → Says n (word k n (meaning l v)) (Err r)) → NumberPlan s p k n v next (Err r)
   unfolding encode
-  number_refused j h l rest e g = field_refused s (Field.Number k n) p e s refl (meaning l v) rest j (sym (h l s.big))
+  number_refused r h l rest e g = field_refused s (Field.Number k n) p e s refl (meaning l v) rest _ (sym (h l s.big))
 
-  module _ (w : ℕ) (h : (l : List ℕ) → Says n (word k n (meaning l v)) (Word.Bits w)) where
+  module _ (w : ℕ) (h : (l : List ℕ) → Says n (word k n (meaning l v)) (Ok w)) where
     number_encoded : (l : List ℕ) (rest : List definition.Value) → padding s n ≡ accepted p → values (drop next l) ≡ accepted rest → Encoded l s (meaning l v ∷ rest) (Field.Number k n) p (laid s.big n w (fill_of w)) next
     unfolding encode
     number_encoded l rest e g = record { padded = e; state = s; early_is = refl; val = meaning l v; rest = rest; first = refl; encoded = sym (h l s.big); list = g }
@@ -133,34 +134,36 @@ module _ (s : State) (p : ℕ) (k : Kind) (n : ℕ) (v : Value) (next : ℕ) whe
     number_size : p + length (laid s.big n w (fill_of w)) ≡ p + n
     number_size = ap (λ (m : ℕ). p + m) (length_laid s.big n w (fill_of w))
 
-    pub number_long : leb (s.length + (p + n)) (2 ^ 63 - 1) ≡ false → NumberPlan s p k n v next (Plan.Refused 9)
+    pub number_long : leb (s.length + (p + n)) (2 ^ 63 - 1) ≡ false → NumberPlan s p k n v next (Err Refusal.LengthTooLarge)
     number_long r l rest e g = encoded_long l s _ (Field.Number k n) p _ next (p + n) (number_encoded l rest e g) number_size r
 
-    pub number_put : leb (s.length + (p + n)) (2 ^ 63 - 1) ≡ true → NumberPlan s p k n v next (Plan.Number p n w next)
+    pub number_put : leb (s.length + (p + n)) (2 ^ 63 - 1) ≡ true → NumberPlan s p k n v next (Ok (Plan.Number p n w next))
     number_put r l rest e g = encoded_put l s _ (Field.Number k n) p _ next (p + n) (number_encoded l rest e g) number_size r
 
 -- by what stands in the list
 module _ (l : List ℕ) (at : ℕ) (s : State) (k : Kind) (n : ℕ) where
   module _ (p : ℕ) (e : padding s n ≡ accepted p) where
-    pub number_none : FieldRead l at Found.End → ItemAt l at s (Op.Put (Field.Number k n)) (Plan.Refused 11)
-    number_none h vs known = ap (λ (ws : List definition.Value). wrote s ws (Op.Put (Field.Number k n))) (takes_none l at vs known h.says) ∙ field_none s (Field.Number k n) p e s refl
+    pub number_none : {r : Refusal} → FieldRead l at None → ◌≡◌ {A = Result (Value × ℕ) Refusal} (Err r) (Err Refusal.NoValueLeft) → ItemAt l at s (Op.Put (Field.Number k n)) (Err r)
+    number_none {r} h same vs known =
+        let is : r ≡ Refusal.NoValueLeft = cc in
+        rw is (ap (λ (ws : List definition.Value). wrote s ws (Op.Put (Field.Number k n))) (takes_none l at vs known h.says) ∙ field_none s (Field.Number k n) p e s refl)
 
-    pub number_found : (v : Value) (next : ℕ) (r : Plan) → FieldRead l at (Found.Found v next) → NumberPlan s p k n v next r → ItemAt l at s (Op.Put (Field.Number k n)) r
-    number_found v next r h q vs known =
+    pub number_found : {v : Value} {next : ℕ} (r : Result Plan Refusal) → FieldRead l at (Some (v, next)) → NumberPlan s p k n v next r → ItemAt l at s (Op.Put (Field.Number k n)) r
+    number_found {v} {next} r h q vs known =
         let t = takes_first l at vs known (meaning l v) next h.says in
         subst (λ (ws : List definition.Value). ItemPlan l s ws (Op.Put (Field.Number k n)) r) (sym t.is) (q l t.others e t.left)
 
 -- ---- texts: what `bytes` makes of a list that has the text is `size` long
-module _ (s : State) (p start len next : ℕ) (bytes : List ℕ → List ℕ) (size : ℕ) (sized : (l : List ℕ) → start + len ≤ length l → length (bytes l) ≡ size) where
-  whole_size : (l : List ℕ) → start + len ≤ length l → p + length (bytes l) ≡ p + size
+module _ (s : State) (p : ℕ) (t : Text) (bytes : List ℕ → List ℕ) (size : ℕ) (sized : (l : List ℕ) → t.start + t.length ≤ length l → length (bytes l) ≡ size) where
+  whole_size : (l : List ℕ) → t.start + t.length ≤ length l → p + length (bytes l) ≡ p + size
   whole_size l within = ap (λ (m : ℕ). p + m) (sized l within)
 
-  pub text_long : leb (s.length + (p + size)) (2 ^ 63 - 1) ≡ false → BytesPlan bytes s p start len next (Plan.Refused 9)
-  text_long h l vs f x within = encoded_long l s vs f p _ next _ x (whole_size l within) h
+  pub text_long : leb (s.length + (p + size)) (2 ^ 63 - 1) ≡ false → BytesPlan bytes s p t (Err Refusal.LengthTooLarge)
+  text_long h l vs f x within = encoded_long l s vs f p _ t.next _ x (whole_size l within) h
 
-  pub text_put : leb (s.length + (p + size)) (2 ^ 63 - 1) ≡ true → (l : List ℕ) (vs : List definition.Value) (f : Field) → Encoded l s vs f p (bytes l) next → start + len ≤ length l
-      → Wrote l s vs (Op.Put f) p (bytes l) (p + size) next × (start + len ≤ length l)
-  text_put h l vs f x within = (encoded_put l s vs f p _ next _ x (whole_size l within) h, within)
+  pub text_put : leb (s.length + (p + size)) (2 ^ 63 - 1) ≡ true → (l : List ℕ) (vs : List definition.Value) (f : Field) → Encoded l s vs f p (bytes l) t.next → t.start + t.length ≤ length l
+      → Wrote l s vs (Op.Put f) p (bytes l) (p + size) t.next × (t.start + t.length ≤ length l)
+  text_put h l vs f x within = (encoded_put l s vs f p _ t.next _ x (whole_size l within) h, within)
 
 -- a text option f after p zeros, which passed what is checked before its value
 pub record Begun (l : List ℕ) (at : ℕ) (s : State) (f : Field) (p : ℕ) : Type 0 where
@@ -170,39 +173,39 @@ pub record Begun (l : List ℕ) (at : ℕ) (s : State) (f : Field) (p : ℕ) : T
   pub early_is : early s f ≡ accepted state
 
 module _ {l : List ℕ} {at : ℕ} {s : State} {f : Field} {p : ℕ} (b : Begun l at s f p) where
-  pub text_missing : {j : ℕ} → TextRead l at (Text.Refused j) → ItemAt l at s (Op.Put f) (Plan.Refused j)
-  text_missing {j} h vs known = go vs (h vs known)
+  pub text_missing : (r : Refusal) → TextRead l at (Err r) → ItemAt l at s (Op.Put f) (Err r)
+  text_missing r h vs known = go vs (h vs known)
     where
-      go : (ws : List definition.Value) → first_text ws ≡ refused j → wrote s ws (Op.Put f) ≡ refused j
-      go [] e = let i : 11 ≡ j = cc in field_none s f p b.padded b.state b.early_is ∙ ap refused i
-      go (v ∷ ws) e = field_refused s f p b.padded b.state b.early_is v ws j (no_text s.big f v j b.is_text e)
+      go : (ws : List definition.Value) → first_text ws ≡ refused (refusal_number r) → wrote s ws (Op.Put f) ≡ refused (refusal_number r)
+      go [] e = let i : 11 ≡ refusal_number r = cc in field_none s f p b.padded b.state b.early_is ∙ ap refused i
+      go (v ∷ ws) e = field_refused s f p b.padded b.state b.early_is v ws _ (no_text s.big f v _ b.is_text e)
 
-  module _ {start n next : ℕ} (h : TextAt l at start n next) where
-    pub text_refused : {j : ℕ} → encode s.big f (text (take n (drop start l))) ≡ refused j → ItemAt l at s (Op.Put f) (Plan.Refused j)
-    text_refused {j} e vs known =
-        let t = h.found vs known in
-        ap (λ (ws : List definition.Value). wrote s ws (Op.Put f)) t.is ∙ field_refused s f p b.padded b.state b.early_is _ t.rest j e
+  module _ {t : Text} (h : TextAt l at t) where
+    pub text_refused : (r : Refusal) → encode s.big f (text (take t.length (drop t.start l))) ≡ refused (refusal_number r) → ItemAt l at s (Op.Put f) (Err r)
+    text_refused r e vs known =
+        let u = h.found vs known in
+        ap (λ (ws : List definition.Value). wrote s ws (Op.Put f)) u.is ∙ field_refused s f p b.padded b.state b.early_is _ u.rest _ e
 
-    pub text_planned : (bytes : List ℕ → List ℕ) (r : Plan) → encode s.big f (text (take n (drop start l))) ≡ accepted (bytes l) → BytesPlan bytes s p start n next r → ItemAt l at s (Op.Put f) r
+    pub text_planned : (bytes : List ℕ → List ℕ) (r : Result Plan Refusal) → encode s.big f (text (take t.length (drop t.start l))) ≡ accepted (bytes l) → BytesPlan bytes s p t r → ItemAt l at s (Op.Put f) r
     text_planned bytes r e q vs known =
-        let t = h.found vs known in
-        q l vs f (record { padded = b.padded; state = b.state; early_is = b.early_is; val = text (take n (drop start l)); rest = t.rest; first = t.is; encoded = e; list = t.list }) h.within
+        let u = h.found vs known in
+        q l vs f (record { padded = b.padded; state = b.state; early_is = b.early_is; val = text (take t.length (drop t.start l)); rest = u.rest; first = u.is; encoded = e; list = u.list }) h.within
 
 -- c checks 9 early
-pub chars_early : (l : List ℕ) (at : ℕ) (s : State) (n : ℕ) {p : ℕ} → padding s 1 ≡ accepted p → leb (s.length + n) (2 ^ 63 - 1) ≡ false → ItemAt l at s (Op.Put (Field.Chars n)) (Plan.Refused 9)
+pub chars_early : (l : List ℕ) (at : ℕ) (s : State) (n : ℕ) {p : ℕ} → padding s 1 ≡ accepted p → leb (s.length + n) (2 ^ 63 - 1) ≡ false → ItemAt l at s (Op.Put (Field.Chars n)) (Err Refusal.LengthTooLarge)
 chars_early l at s n {p} e h vs known = field_early s (Field.Chars n) p e vs 9 (no_room s n h)
 
 pub chars_room : (s : State) (n : ℕ) → leb (s.length + n) (2 ^ 63 - 1) ≡ true → early s (Field.Chars n) ≡ accepted (further s n)
 chars_room s n e = room_longer s n e
 
 -- ---- an item, by what it is
-pub of_op : (l : List ℕ) (at : ℕ) (s : State) (o q : Op) (r : Plan) → ItemAt l at s q r → o ≡ q → ItemAt l at s o r
+pub of_op : (l : List ℕ) (at : ℕ) (s : State) (o q : Op) (r : Result Plan Refusal) → ItemAt l at s q r → o ≡ q → ItemAt l at s o r
 of_op l at s o q r h e = subst (λ (x : Op). ItemAt l at s x r) (sym e) h
 
-pub skips : (l : List ℕ) (at : ℕ) (s : State) → ItemAt l at s Op.Blank Plan.Skip
+pub skips : (l : List ℕ) (at : ℕ) (s : State) → ItemAt l at s Op.Blank (Ok Plan.Skip)
 unfolding write_op
 skips l at s vs known = refl
 
-pub sets_state : (l : List ℕ) (at : ℕ) (s : State) (x : Setting) → ItemAt l at s (Op.Set x) (Plan.Set x)
+pub sets_state : (l : List ℕ) (at : ℕ) (s : State) (x : Setting) → ItemAt l at s (Op.Set x) (Ok (Plan.Set x))
 unfolding write_op
 sets_state l at s x vs known = refl

@@ -1,15 +1,15 @@
 -- The bytes of a text option are what the definition encodes, and without a text there are 11 and 12.
 use Prim.Native.Nat.{ℕ, ◌+◌, ◌-◌, ◌^◌, ◌≤◌, ◌<◌}
 use native.Mathlib.Omega.{arith}
-use mathlib.Core.Path.{◌≡◌, sym, ap, ◌∙◌}
-use mathlib.Core.Bool.{Bool, true, false, ◌||◌, or-true}
+use mathlib.Core.Path.{◌≡◌, refl, sym, ap, ◌∙◌}
+use mathlib.Core.Bool.{Bool, true, false}
 use mathlib.Core.List.{List}
 use mathlib.Core.Option.{none}
-use Rattle.std.specs.Prelude.{Ok, Err, Some, None}
+use Rattle.std.specs.Prelude.{Result, Ok, Err, Some, None}
 use lib.Dec.{T, ltb}
-use lib.ListN.{length, take, drop, get_or, replicate, length-append, length-drop, length-replicate}
-use lib.Seq.{length-take-le, drop-cons}
-use borrow.Author.Tests.{le-leb, lt-leb, lt-ltb, eq-eqb, ne_eqb}
+use lib.ListN.{length, take, drop, replicate, length-append, length-drop, length-replicate}
+use lib.Seq.{length-take-le}
+use borrow.Author.Tests.{le-leb, lt-leb, lt-ltb}
 use Rattle.definition.specs.Answers.{refused, accepted, or_else}
 use Rattle.definition.specs.Bytes.{laid}
 use Rattle.definition.specs.Ops.{within16}
@@ -30,12 +30,20 @@ use Rattle.plan.specs.declared.text.Text.{Text}
 
 -- ---- the text at an offset
 module _ (l : List ℕ) (at : ℕ) where
-  pub text_none : FieldRead l at None → TextRead l at (Err Refusal.NoValueLeft)
-  text_none h vs known = ap first_text (takes_none l at vs known h.says)
+  pub text_none : {e : Refusal} → FieldRead l at None → ◌≡◌ {A = Result (Value × ℕ) Refusal} (Err e) (Err Refusal.NoValueLeft) → TextRead l at (Err e)
+  text_none {e} h same vs known =
+      let is : e ≡ Refusal.NoValueLeft = cc in
+      rw is (ap first_text (takes_none l at vs known h.says))
 
-  module _ (v : Value) (next : ℕ) (h : FieldRead l at (Some (v, next))) where
-    pub text_other : as_bytes (meaning l v) ≡ none → TextRead l at (Err Refusal.WrongKind)
-    text_other e vs known = rw ((takes_first l at vs known (meaning l v) next h.says).is, e)
+  pub text_other : (v : Value) (next : ℕ) → FieldRead l at (Some (v, next)) → ((start n : ℕ) → v ≡ Value.Text start n → ⊥) → TextRead l at (Err Refusal.WrongKind)
+  text_other v next h other vs known = rw ((takes_first l at vs known (meaning l v) next h.says).is, none_of v other)
+    where
+      none_of : (v : Value) → ((start n : ℕ) → v ≡ Value.Text start n → ⊥) → as_bytes (meaning l v) ≡ none
+      none_of (Value.Text start n) other = absurd (other start n refl)
+      none_of (Value.Integer z) other = refl
+      none_of (Value.Float x) other = refl
+      none_of (Value.NotANumber b) other = refl
+      none_of Value.Other other = refl
 
   pub text_found : (start n next : ℕ) → FieldRead l at (Some (Value.Text start n, next)) → TextRead l at (Ok (record { start = start; length = n; next = next }))
   text_found start n next h = record {
@@ -103,11 +111,3 @@ no_text o (Field.Number j n) v k t e = absurd t
 no_text o (Field.Chars n) v k t e = rw e
 no_text o Field.ZeroEnded v k t e = rw e
 no_text o (Field.Counted n) v k t e = rw e
-
--- ---- zeros among the bytes of s, of which i are passed: f is what was found before the next byte, and e whether there is one among all
-module _ (s : List ℕ) (i : ℕ) (h : i < length s) where
-  pub next_zero : (f : Bool) {g e : Bool} → get_or s i 0 ≡ 0 → g ≡ true → (f || has_zero (drop i s)) ≡ e → (g || has_zero (drop (i + 1) s)) ≡ e
-  next_zero f z is_true so = rw is_true (sym (or-true f) ∙ (rw (drop-cons s i 0 h, eq-eqb (get_or s i 0) 0 z) at so))
-
-  pub next_other : {f g e : Bool} → (get_or s i 0 ≡ 0 → ⊥) → g ≡ f → (f || has_zero (drop i s)) ≡ e → (g || has_zero (drop (i + 1) s)) ≡ e
-  next_other z same so = rw same (rw (drop-cons s i 0 h, ne_eqb (get_or s i 0) 0 z) at so)

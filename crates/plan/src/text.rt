@@ -31,15 +31,15 @@ pub fn text_at(list: &[u8], at: usize) -> Result<Text, Refusal>
     requires { is_accepted (values (drop at list.now)) ≡ true }
     ensures { TextRead list.now at result }
 {
-    match field_at(list, at) {
-        Some((Value::Text(start, length), next)) => Ok(Text {
-            start,
-            length,
-            next,
-        }),
-        Some(_) => Err(Refusal::WrongKind),
-        None => Err(Refusal::NoValueLeft),
-    }
+    let (value, next) = field_at(list, at).ok_or(Refusal::NoValueLeft)?;
+    let Value::Text(start, length) = value else {
+        return Err(Refusal::WrongKind);
+    };
+    Ok(Text {
+        start,
+        length,
+        next,
+    })
 }
 
 // Whether a zero stands in a text. All of its bytes are looked at, so that the loop goes over many at a time.

@@ -1,6 +1,8 @@
 -- 9 for the numeral; then a text that is not too long.
 use mathlib.Core.Path.{sym, ◌∙◌}
+use Rattle.std.proofs.lemmas.Result.{err_from_is_err_and}
 use Rattle.definition.specs.declared.Field.TheVariants as Field
+use Rattle.definition.specs.declared.Refusal.{Refusal}
 use Rattle.plan.proofs.Plans.{padding_lt, Begun, text_missing, text_refused, text_planned, chars_early, chars_room}
 use Rattle.plan.proofs.Texts.{chars_long, chars_bytes}
 use Rattle.plan.proofs.item.chars.Goals as goal
@@ -14,19 +16,20 @@ pub returns-then-not-fits : goal.returns-then-not-fits
 returns-then-not-fits c =
     chars_early c.args.list.now c.args.at c.args.s c.args.n c.requires.padded (sym c.fits.ensures ∙ c.if-not-fits.true)
 
-pub returns-in-Refused : goal.returns-in-Refused
-returns-in-Refused c =
-    text_missing (begun (goal.at.returns-in-Refused c).After-text_at) c.in-Refused.ensures
+pub returns-in_err-text : goal.returns-in_err-text
+returns-in_err-text c =
+    let p = err_from_is_err_and c.from_residual.result c.from_residual.ensures.1 in
+    rw (p.1, p.2) (text_missing (begun (goal.at.returns-in_err-text c).After-text_at) c.in_err-text.field-0.0 c.in_err-text.ensures)
 
 pub returns-then-n-length : goal.returns-then-n-length
 returns-then-n-length c =
-    text_refused (begun (goal.at.returns-then-n-length c).After-text_at) c.in-At.ensures (chars_long _ c.in-At.ensures _ c.if-n-length.true)
+    text_refused (begun (goal.at.returns-then-n-length c).After-text_at) c.in_ok-text.ensures Refusal.TextDoesNotFit (chars_long _ c.in_ok-text.ensures _ c.if-n-length.true)
 
 pub put_text-requires-clause-small_fill : goal.put_text-requires-clause-small_fill
 put_text-requires-clause-small_fill c =
     padding_lt c.args.s _ _ c.requires.padded
 
-pub returns-else-n-length : goal.returns-else-n-length
-returns-else-n-length c =
-    let bytes = chars_bytes _ c.in-At.ensures _ c.if-n-length.false in
-    text_planned (begun (goal.at.returns-else-n-length c).After-text_at) c.in-At.ensures _ c.put_text.result bytes c.put_text.ensures
+pub returns : goal.returns
+returns c =
+    let bytes = chars_bytes _ c.in_ok-text.ensures _ c.if-n-length.false in
+    text_planned (begun (goal.at.returns c).After-text_at) c.in_ok-text.ensures _ c.put_text.result bytes c.put_text.ensures
