@@ -4,6 +4,7 @@ use native.Mathlib.Omega.{arith}
 use mathlib.Core.Path.{◌≡◌, refl, sym, ap, ◌∙◌, subst}
 use mathlib.Core.Bool.{Bool, true, false, cond}
 use mathlib.Core.List.{List, [], ◌∷◌, ◌++◌, map, map-append}
+use Rattle.std.specs.Prelude.{Ok}
 use lib.ListN.{length, drop, replicate, length-append, length-replicate, length-map}
 use lib.Seq.{paste, paste-zero}
 use Rattle.definition.specs.Answers.{Checked, refused, accepted}
@@ -16,9 +17,10 @@ use Rattle.definition.specs.declared.Setting.{Setting}
 use Rattle.definition.specs.declared.Op.{Op}
 use Rattle.values.specs.Meaning.{is_accepted}
 use Rattle.store.specs.Texts.{text_bytes, counted_bytes}
-use Rattle.plan.specs.Plans.{Wrote, ItemPlan, ItemAt}
+use Rattle.plan.specs.Plans.{Wrote, Planned, ItemAt}
 use Rattle.word.specs.Words.{fill_of}
 use Rattle.plan.specs.declared.item.Plan.{Plan}
+use Rattle.plan.specs.declared.text.Text.{Text}
 use Rattle.write_pass.specs.Walks.{listed, values_of, put_at, taken, written, Moved}
 use Rattle.write_pass.specs.declared.Progress.{Progress}
 
@@ -46,9 +48,9 @@ padded_length n s = length-append (pads n) (map byte s) ∙ ap (λ (x : ℕ). x 
 -- the plan r of the item op at p
 pub record At (l : List ℕ) (p : Progress) (op : Op) (r : Plan) : Type 0 where
   pub known : is_accepted (values (drop p.at l)) ≡ true
-  pub says : ItemPlan l p.state (values_of (drop p.at l)) op r
+  pub says : Planned l p.state (values_of (drop p.at l)) op r
 
-pub planned : (l : List ℕ) (p : Progress) (op : Op) (r : Plan) → is_accepted (values (drop p.at l)) ≡ true → ItemAt l p.at p.state op r → At l p op r
+pub planned : (l : List ℕ) (p : Progress) (op : Op) (r : Plan) → is_accepted (values (drop p.at l)) ≡ true → ItemAt l p.at p.state op (Ok r) → At l p op r
 planned l p op r known h = record { known = known; says = h _ (list_known (values (drop p.at l)) known) }
 
 -- the bytes that are put for a value: n zeros, and bytes, which are `size` in all
@@ -59,10 +61,10 @@ module _ {l : List ℕ} {p : Progress} {op : Op} where
   pub number_put : {n size word next : ℕ} → At l p op (Plan.Number n size word next) → Put l p op n (laid p.state.big size word (fill_of word)) (n + size) next
   number_put h = record { wrote = h.says }
 
-  pub text_put : {n start len zeros next : ℕ} → At l p op (Plan.Text n start len zeros next) → Put l p op n (text_bytes l start len zeros) (n + (len + zeros)) next
+  pub text_put : {n zeros : ℕ} {t : Text} → At l p op (Plan.Text n t zeros) → Put l p op n (text_bytes l t.start t.length zeros) (n + (t.length + zeros)) t.next
   text_put h = record { wrote = h.says.0 }
 
-  pub counted_put : {n size start len next : ℕ} → At l p op (Plan.Counted n size start len next) → Put l p op n (counted_bytes p.state.big l size start len) (n + (size + len)) next
+  pub counted_put : {n size : ℕ} {t : Text} → At l p op (Plan.Counted n size t) → Put l p op n (counted_bytes p.state.big l size t.start t.length) (n + (size + t.length)) t.next
   counted_put h = record { wrote = h.says.0 }
 
   -- ---- what it puts
