@@ -5,9 +5,10 @@ use native.Mathlib.Nat.{pow-suc, one-mul, mod-eq_of_lt}
 use lib.Pow.{pow-lt, pow_mono}
 use mathlib.Core.Path.{◌≡◌, refl, sym, ap, ◌∙◌, subst}
 use mathlib.Core.Bool.{Bool, true, false, cond}
+use mathlib.Core.Logic.{◌⊎◌, inl, inr}
 use mathlib.Core.Option.{Option, none, some}
 use Rattle.std.specs.Prelude as rust
-use Rattle.std.specs.Prelude.{Result, Ok, Err}
+use Rattle.std.specs.Prelude.{Result, Ok, Err, IfOk}
 use Rattle.std.specs.Option.{ok_or}
 use lib.Dec.{T, ltb}
 use lib.IntN.{ℤ, pos, negsuc}
@@ -161,22 +162,26 @@ unfolding word
 of_none n w e = record { lua = rw e (float_bits w e); size = rw e (float_wrapped w e) }
 
 -- J of a number's bits is in the range of eight bytes
-pub lua_unsigned_bits : (w : Value) → as_integer w ≡ none → ((b : ℕ) → as_number w ≡ some b → b < 2 ^ 64) → word LuaUnsigned 8 w ≡ bits_or (as_number w)
+pub lua_unsigned_bits : (w : Value) (r : Result ℕ Refusal) → as_integer w ≡ none → IfOk r (λ b. b < 2 ^ 64) → answer_of r ≡ or_else (as_number w) (refused 12) → word LuaUnsigned 8 w ≡ bits_or (as_number w)
 unfolding word
-lua_unsigned_bits w e f = rw (e, float_bits w e) (go (as_number w) f)
+lua_unsigned_bits w r e h i = rw (e, float_bits w e) (go (as_number w) r h i)
   where
-    go : (m : Option ℕ) → ((b : ℕ) → m ≡ some b → b < 2 ^ 64) → (bits_or m >>= λ z. require (in_unsigned 8 z) 13 >> accepted z) ≡ bits_or m
-    go none f = refl
-    go (some b) f = rw (lt-ltb b (256 ^ 8) (f b refl))
+    go : (m : Option ℕ) (r : Result ℕ Refusal) → IfOk r (λ b. b < 2 ^ 64) → answer_of r ≡ or_else m (refused 12) → (bits_or m >>= λ z. require (in_unsigned 8 z) 13 >> accepted z) ≡ bits_or m
+    go none r h i = refl
+    go (some b) (Ok c) h i =
+        let same : c ≡ b = cc in
+        rw (lt-ltb b (256 ^ 8) (omega (arith, h)))
+    go (some b) (Err k) h i = absurd (let x : ◌≡◌ {A = ℕ} 0 1 = cc in omega arith)
 
 -- ---- by the kind
 pub of_kind : {k j : Kind} (n : ℕ) (w : Value) (r : Result ℕ Refusal) → k ≡ j → Says n (word j n w) r → Says n (word k n w) r
 of_kind n w r i h = says_as n r h (ap (λ (x : Kind). word x n w) i)
 
 -- B and H are b and h but for what is read
-pub same_small : (n : ℕ) (w : Value) → word SmallSigned n w ≡ word SmallUnsigned n w
+pub of_small : {k : Kind} (n : ℕ) (w : Value) (r : Result ℕ Refusal) → (k ≡ SmallSigned) ⊎ (k ≡ SmallUnsigned) → Says n (word SmallSigned n w) r → Says n (word k n w) r
 unfolding word
-same_small n w = refl
+of_small n w r (inl e) h = of_kind n w r e h
+of_small n w r (inr e) h = of_kind n w r e h
 
 pub valid_as : {k j : Kind} (n : ℕ) → T (valid_size k n) → k ≡ j → T (valid_size j n)
 valid_as n h e = subst (λ (x : Kind). T (valid_size x n)) e h

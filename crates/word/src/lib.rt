@@ -133,8 +133,7 @@ pub fn word_of(kind: Kind, size: u64, v: Value) -> Result<u64, Refusal>
     ensures { (l : List ℕ) → Says size (fields.word kind size (meaning l v)) result }
 {
     match kind {
-        Kind::SmallSigned => any_integer(v),
-        Kind::SmallUnsigned => any_integer(v),
+        Kind::SmallSigned | Kind::SmallUnsigned => any_integer(v),
         Kind::Signed => ranged(true, size, v),
         Kind::Unsigned => ranged(false, size, v),
         Kind::LuaInteger => lua_integer(v),
