@@ -2,8 +2,8 @@
 ghost use Rattle.std.specs.Prelude.{◌≤◌};
 
 use crate::vector::Vector;
-use load::{Signed, Unsigned, get_signed, get_unsigned};
-use words::{to_signed, to_word};
+use load::{get_signed, get_unsigned};
+use words::to_word;
 
 // An integer's bytes, with a fill above eight.
 pub fn is_written(v: Vector, data: &[u8], fill: u8) -> bool
@@ -14,13 +14,16 @@ pub fn is_written(v: Vector, data: &[u8], fill: u8) -> bool
     data == out.as_slice()
 }
 
-// The field of an integer or of a float in a value list.
-pub fn is_field(v: Vector, data: &[u8]) -> bool {
+// The field of an integer in a value list.
+pub fn is_integer_field(v: Vector, data: &[u8]) -> bool {
     let mut out = [0u8; 16];
-    if v.group == b'v' {
-        fields::put_integer(&mut out, 0, to_signed(v.a));
-        return data == out.as_slice();
-    }
+    fields::put_integer(&mut out, 0, v.a.cast_signed());
+    data == out.as_slice()
+}
+
+// The field of a float.
+pub fn is_float_field(v: Vector, data: &[u8]) -> bool {
+    let mut out = [0u8; 16];
     fields::put_float(&mut out, 0, v.a);
     data == out.as_slice()
 }
@@ -30,10 +33,7 @@ pub fn is_read(v: Vector, data: &[u8]) -> bool {
     if v.size > data.len() {
         return false;
     }
-    match get_signed(data, 0, v.size, v.big) {
-        Signed::Fits(z) => v.answers & (to_word(z) == v.a),
-        Signed::TooWide => !v.answers,
-    }
+    get_signed(data, 0, v.size, v.big).map(to_word) == v.expected(v.a)
 }
 
 // An integer that is not negative, or that it doesn't fit 64 bits.
@@ -41,8 +41,5 @@ pub fn is_word_read(v: Vector, data: &[u8]) -> bool {
     if v.size > data.len() {
         return false;
     }
-    match get_unsigned(data, 0, v.size, v.big) {
-        Unsigned::Fits(u) => v.answers & (u == v.a),
-        Unsigned::TooWide => !v.answers,
-    }
+    get_unsigned(data, 0, v.size, v.big) == v.expected(v.a)
 }

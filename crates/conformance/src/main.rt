@@ -7,7 +7,6 @@
 // reader.rt how they write bytes. Where a read or a write fails, the program ends with that error.
 #![tactic(auto)]
 
-mod answers;
 mod floats;
 mod input;
 mod integers;
@@ -17,61 +16,78 @@ mod profile;
 mod random;
 mod reader;
 mod recorded;
-mod scan;
 mod show;
 mod tally;
 mod vector;
 
+use align::start;
+use definition::State;
 use input::read_full;
-use parts::{front, part, room_for_input};
+use parts::{front, room_for_input};
 use profile::print_profile;
-use reader::peek;
 use recorded::is_same;
-use scan::find;
 use show::print_line;
 use std::io;
-use tally::{Group, counted, group_at, report};
+use tally::Tally;
 use vector::is_held;
 
-// A line, given the group that it belongs to.
-fn next(rt: &impl Print, s: &[u8], at: usize, end: usize, mut g: Group) -> io::Result<Group> {
-    let line = part(s, at, end);
-    if peek(line, 0) == b'#' {
-        report(rt, s, g)?;
-        return heading(
-            rt,
-            line,
-            group_at(peek(line, 1), std::num::wrapping_add_usize(at, 3), end),
-        );
+// What the lines below a heading are: cases, or profiles, with the state that continued writing is in.
+#[derive(Clone, Copy)]
+enum Group<'a> {
+    Vectors(Tally<'a>),
+    Recorded(Tally<'a>),
+    Profiles(State),
+}
+
+// Writes what there is to say of a group that ends.
+fn report(rt: &impl Print, group: Group<'_>) -> io::Result<()> {
+    match group {
+        Group::Vectors(tally) => tally.report(rt),
+        Group::Recorded(tally) => tally.report(rt),
+        Group::Profiles(_) => Ok(()),
     }
-    let kind = g.kind;
-    match kind {
-        b'v' => counted(rt, g, is_held(line), line),
-        b'r' => counted(rt, g, is_same(line), line),
+}
+
+// The group that a heading begins; its line is written if it is one of profiles.
+fn group_of<'a>(rt: &impl Print, heading: &'a [u8]) -> io::Result<Group<'a>> {
+    match heading {
+        [b'#', b'v', b' ', name @ ..] => Ok(Group::Vectors(Tally::new(name))),
+        [b'#', b'r', b' ', name @ ..] => Ok(Group::Recorded(Tally::new(name))),
         _ => {
-            g.state = print_profile(rt, line, g.state)?;
-            Ok(g)
+            print_line(rt, heading)?;
+            Ok(Group::Profiles(start()))
         }
     }
 }
 
-// A group; its line is written if it is one of profiles.
-fn heading(rt: &impl Print, line: &[u8], g: Group) -> io::Result<Group> {
-    if g.kind == b' ' {
-        print_line(rt, line)?;
+// A line, given the group that it belongs to.
+fn next<'a>(rt: &impl Print, line: &'a [u8], group: Group<'a>) -> io::Result<Group<'a>> {
+    if line.starts_with(b"#") {
+        report(rt, group)?;
+        return group_of(rt, line);
     }
-    Ok(g)
+    match group {
+        Group::Vectors(tally) => {
+            let tally = tally.counted(rt, is_held(line), line)?;
+            Ok(Group::Vectors(tally))
+        }
+        Group::Recorded(tally) => {
+            let tally = tally.counted(rt, is_same(line), line)?;
+            Ok(Group::Recorded(tally))
+        }
+        Group::Profiles(state) => {
+            let state = print_profile(rt, line, state)?;
+            Ok(Group::Profiles(state))
+        }
+    }
 }
 
-fn run(rt: &impl Print, s: &[u8]) -> io::Result<()> {
-    let mut at = 0;
-    let mut g = group_at(b' ', 0, 0);
-    while at < s.len() {
-        let end = find(s, at, s.len(), b'\n');
-        g = next(rt, s, at, end, g)?;
-        at = end + 1;
+fn run(rt: &impl Print, text: &[u8]) -> io::Result<()> {
+    let mut group = Group::Profiles(start());
+    for line in text.split_inclusive(|b| *b == b'\n') {
+        group = next(rt, line.strip_suffix(b"\n").unwrap_or(line), group)?;
     }
-    report(rt, s, g)
+    report(rt, group)
 }
 
 fn main(rt: HostRuntime) -> io::Result<()> {

@@ -1,21 +1,22 @@
 // Parts of slices, and long buffers.
 ghost use Rattle.std.specs.Prelude.{◌≡◌, length};
 
-use crate::reader::behind;
-use crate::scan::find;
-
 // What every byte of a result buffer is before a call.
 pub const FILL: u8 = 238;
 
 // The first n bytes, or all where there are fewer.
-pub fn front<'a>(s: &'a [u8], n: usize) -> &'a [u8] {
+pub fn front(s: &[u8], n: usize) -> &[u8] {
     if n <= s.len() { &s[0..n] } else { s }
 }
 
-// The bytes from a place to another, or all.
-pub fn part<'a>(s: &'a [u8], at: usize, end: usize) -> &'a [u8] {
-    let t = front(s, end);
-    if at <= t.len() { &t[at..] } else { t }
+// Whether each byte behind the first n is the one that a result buffer has before a call.
+pub fn is_unchanged(s: &[u8], n: usize) -> bool {
+    s.iter().skip(n).all(|b| *b == FILL)
+}
+
+// The number that bytes write, the highest first, by its lowest 64 bits.
+pub fn word(bytes: &[u8]) -> u64 {
+    bytes.iter().fold(0, |word, b| (word << 8) | u64::from(*b))
 }
 
 // A long buffer, every byte of it the same.
@@ -30,12 +31,4 @@ pub fn room_for_input() -> [u8; 1048576]
     ensures { 1048576 ≡ length result }
 {
     [0; 1048576]
-}
-
-// The place behind a word and the space after it.
-pub fn behind_word(s: &[u8], at: usize) -> usize {
-    if at < s.len() {
-        return behind(find(s, at, s.len(), b' '));
-    }
-    at
 }

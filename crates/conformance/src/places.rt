@@ -1,18 +1,13 @@
 // Start positions, alignment and lengths.
 use crate::vector::Vector;
-use align::{Amount, Next, state};
-use position::Started;
+use align::state;
+use definition::Refusal;
 
 // A start in data of a length: the position that it means, or refused.
 pub fn is_start(v: Vector) -> bool {
-    match position::offset_of(words::to_signed(v.a), v.b as usize) {
-        Started::At(o) => {
-            if o.0 == u64::MAX {
-                return false;
-            }
-            v.answers & (position::position_of(o).0 == v.c)
-        }
-        Started::Outside => !v.answers,
+    match position::offset_of(v.a.cast_signed(), v.b as usize) {
+        Ok(o) => o.0 < u64::MAX && Some(position::position_of(o).0) == v.expected(v.c),
+        Err(refusal) => !v.answers && refusal == Refusal::StartOutside,
     }
 }
 
@@ -24,16 +19,12 @@ pub fn is_padding(v: Vector) -> bool {
     if v.size == 0 {
         return false;
     }
-    match align::padding(state(false, v.b, v.a), v.size as u64) {
-        Amount::Bytes(n) => v.answers & (n == v.c),
-        Amount::Refused(k) => !v.answers & (k == 6),
-    }
+    let expected = v.expected(v.c).ok_or(Refusal::AlignmentNoPower);
+    align::padding(state(false, v.b, v.a), v.size as u64) == expected
 }
 
 // The sum of two lengths, or 9.
 pub fn is_longer(v: Vector) -> bool {
-    match align::longer(state(false, 1, v.a), v.b) {
-        Next::State(t) => v.answers & (t.length == v.c),
-        Next::Refused(k) => !v.answers & (k == 9),
-    }
+    let expected = v.expected(v.c).ok_or(Refusal::LengthTooLarge);
+    align::longer(state(false, 1, v.a), v.b).map(|s| s.length) == expected
 }

@@ -1,9 +1,12 @@
 // Formats of 4,096 random bytes, through every call.
-use crate::answers::{Answer, bound, called, size};
-use crate::parts::{FILL, front, room};
-use crate::reader::{bytes, number, peek};
-use crate::show::{is_filled, print_named};
+use crate::parts::{FILL, front, is_unchanged, room};
+use crate::reader::{number, put};
+use bound::list_bound;
+use definition::Refusal;
+use measure::string_packsize;
+use read::string_unpack;
 use std::io;
+use write::string_pack;
 
 // The next state of the generator (xorshift).
 fn stir(x: u64) -> u64 {
@@ -15,155 +18,141 @@ fn stir(x: u64) -> u64 {
 // A byte of an alphabet, or any byte where it is empty.
 fn pick(alphabet: &[u8], x: u64) -> u8 {
     let high = x >> 20;
-    let n = alphabet.len() as u64;
-    if n == 0 {
+    if alphabet.is_empty() {
         return (high % 256) as u8;
     }
-    peek(alphabet, (high % n) as usize)
+    alphabet[(high % alphabet.len() as u64) as usize]
 }
 
-// Where the value that an option takes stands in VALUES: a text, none, or an integer.
-fn place_of(option: u8) -> usize {
+// The field of the value that an option takes: a text, none, or an integer.
+fn value_of(option: u8) -> &'static [u8] {
     match option {
-        b'z' => 0,
-        b's' => 0,
-        b'<' => 10,
-        b'>' => 10,
-        b'=' => 10,
-        b'!' => 10,
-        b' ' => 10,
-        b'x' => 10,
-        _ => 11,
+        b'z' | b's' => &[3, 0, 2, b'A', b'B'],
+        b'<' | b'>' | b'=' | b'!' | b' ' | b'x' => &[],
+        _ => &[1, 0, 8, 0, 0, 0, 0, 0, 0, 0, 7],
     }
 }
 
-// Appends the value that an option takes to a list of n bytes.
-fn put_value(list: &mut [u8], n: usize, option: u8) -> usize {
-    if n < list.len() {
-        let v = bytes(b"0300024142/i7/", place_of(option), &mut list[n..]);
-        return std::num::wrapping_add_usize(n, v.n);
-    }
-    n
-}
-
-// A state of the generator, and how many bytes a list has.
-#[derive(Clone, Copy)]
-struct Drawn {
-    state: u64,
-    n: usize,
-}
-
-// Fills a format, and a list with a value for each of its bytes as an option.
-fn draw(alphabet: &[u8], seed: u64, format: &mut [u8], list: &mut [u8]) -> Drawn {
+// Fills a format, and a list with a value for each of its bytes as an option; the generator's next state, and how many bytes
+// the list has.
+fn draw(alphabet: &[u8], seed: u64, format: &mut [u8], list: &mut [u8]) -> (u64, usize) {
     let mut state = seed;
     let mut n = 0;
-    let mut i = 0;
-    while i < format.len() {
+    for option in format.iter_mut() {
         state = stir(state);
-        let option = pick(alphabet, state);
-        format[i] = option;
-        n = put_value(list, n, option);
-        i += 1;
+        *option = pick(alphabet, state);
+        n = put(list, n, value_of(*option));
     }
-    Drawn { state, n }
+    (state, n)
 }
 
 // Whether a list writes a record.
 fn writes(format: &[u8], list: &[u8], record: &[u8]) -> bool {
     let mut out = room(FILL);
-    let w = called(b'w', format, list, 0, &mut out);
-    (w.refusal == 0) & (front(&out, w.length as usize) == record)
+    match string_pack(format, list, &mut out) {
+        Ok(n) => front(&out, n as usize) == record,
+        Err(_) => false,
+    }
 }
 
-// The position that reading data from its start ends at, 0 where reading refuses. The greatest number where the list is not
-// within the bound, does not write again what was read, or a byte behind it changed.
-fn end_of_reading(format: &[u8], data: &[u8]) -> u64 {
+// How many bytes reading data from its start takes. None where the list is not within the bound, does not write again what was
+// read, or a byte behind it changed.
+fn taken(format: &[u8], data: &[u8]) -> Option<Result<u64, Refusal>> {
     let mut list = room(FILL);
-    let r = called(b'r', format, data, 1, &mut list);
-    let b = bound(format, data.len() as u64);
-    let values = front(&list, r.length as usize);
-    let read = front(data, std::num::wrapping_sub_u64(r.next, 1) as usize);
-    let right = (b.refusal == 0) & (r.length <= b.length) & writes(format, values, read);
-    if (right | (r.refusal > 0)) & is_filled(&list, values.len(), FILL) {
-        return r.next;
+    match string_unpack(format, data, 1, &mut list) {
+        Ok(unpacked) => {
+            let n = unpacked.length as usize;
+            let end = unpacked.next.0.saturating_sub(1);
+            let bounded = list_bound(format, data.len() as u64).is_ok_and(|b| unpacked.length <= b);
+            let again = writes(format, front(&list, n), front(data, end as usize));
+            (bounded && again && is_unchanged(&list, n)).then_some(Ok(end))
+        }
+        Err(refusal) => is_unchanged(&list, 0).then_some(Err(refusal)),
     }
-    u64::MAX
 }
 
 // Whether reading zeros is right.
 fn reads_zeros(format: &[u8]) -> bool {
     let data = room(0);
-    end_of_reading(format, &data) <= 70001
+    taken(format, &data).is_some()
 }
 
 // Whether the other calls agree with what writing and measuring answered. A format that writing refuses with k is refused
 // so by the bound, and by measuring unless a text comes before: the numbers up to 8 are about the format alone. A record is
 // as long as is measured, and read to its end.
-fn agrees(format: &[u8], record: &[u8], w: Answer, m: Answer) -> bool {
-    let k = w.refusal;
-    let b = bound(format, 70000);
-    let measured = (m.refusal == 10) | ((m.refusal == k) & (m.length == w.length));
-    let ends = end_of_reading(format, record) == std::num::wrapping_add_u64(w.length, 1);
-    ((k > 8) | ((b.refusal == k) & measured)) & ((k > 0) | ends)
+fn agrees(
+    format: &[u8],
+    record: &[u8],
+    written: Result<u64, Refusal>,
+    measured: Result<u64, Refusal>,
+) -> bool {
+    let bound = list_bound(format, 70000);
+    let fits = measured == written || measured == Err(Refusal::NoFixedSize);
+    match written {
+        Ok(n) => bound.is_ok() && fits && taken(format, record) == Some(Ok(n)),
+        Err(refusal) => refusal.number() > 8 || (bound == Err(refusal) && fits),
+    }
 }
 
-// The state of the generator; how many formats were measured and written, and for how many the answers disagree with each
-// other.
+// Whether a format was measured and written, and whether the answers agree with each other.
 #[derive(Clone, Copy)]
-struct Tally {
-    state: u64,
+struct Trial {
+    measured: bool,
+    written: bool,
+    agree: bool,
+}
+
+fn tried(format: &[u8], list: &[u8]) -> Trial {
+    let mut out = room(FILL);
+    let written = string_pack(format, list, &mut out);
+    let measured = string_packsize(format);
+    let n = written.unwrap_or(0) as usize;
+    let agree = reads_zeros(format)
+        && agrees(format, front(&out, n), written, measured)
+        && is_unchanged(&out, n);
+    Trial {
+        measured: measured.is_ok(),
+        written: written.is_ok(),
+        agree,
+    }
+}
+
+// How many formats were measured and written, and for how many the answers disagree.
+#[derive(Clone, Copy)]
+struct Counts {
     measured: u64,
     written: u64,
     disagree: u64,
 }
 
-// One format more.
-fn counted(format: &[u8], list: &[u8], t: Tally) -> Tally {
-    let mut out = room(FILL);
-    let w = called(b'w', format, list, 0, &mut out);
-    let m = size(format);
-    let end = w.length as usize;
-    let agree = reads_zeros(format)
-        & agrees(format, front(&out, end), w, m)
-        & is_filled(&out, end, FILL);
-    Tally {
-        state: t.state,
-        measured: std::num::wrapping_add_u64(t.measured, (m.refusal == 0) as u64),
-        written: std::num::wrapping_add_u64(t.written, (w.refusal == 0) as u64),
-        disagree: std::num::wrapping_add_u64(t.disagree, !agree as u64),
-    }
-}
-
-// The next format.
-fn tried(alphabet: &[u8], mut t: Tally) -> Tally {
-    let mut format = [0u8; 4096];
-    let mut list = room(0);
-    let d = draw(alphabet, t.state, &mut format, &mut list);
-    t.state = d.state;
-    counted(&format, front(&list, d.n), t)
-}
-
-fn try_all(alphabet: &[u8], seed: u64, count: u64) -> Tally {
-    let mut t = Tally {
-        state: seed,
+fn try_all(alphabet: &[u8], seed: u64, count: u64) -> Counts {
+    let mut state = seed;
+    let mut counts = Counts {
         measured: 0,
         written: 0,
         disagree: 0,
     };
-    let mut left = count;
-    while left > 0 {
-        t = tried(alphabet, t);
-        left -= 1;
+    for _ in 0..count {
+        let mut format = [0u8; 4096];
+        let mut list = room(0);
+        let (next, n) = draw(alphabet, state, &mut format, &mut list);
+        let trial = tried(&format, front(&list, n));
+        state = next;
+        counts.measured += u64::from(trial.measured);
+        counts.written += u64::from(trial.written);
+        counts.disagree += u64::from(!trial.agree);
     }
-    t
+    counts
 }
 
-pub fn random(rt: &impl Print, alphabet: &[u8], s: &[u8], at: usize) -> io::Result<()> {
-    let seed = number(s, at, b'/', 1);
-    let count = number(s, seed.at, b'/', 1);
-    let t = try_all(alphabet, seed.value, count.value);
-    print_named(rt, b": formats ", count.value)?;
-    print_named(rt, b", measured ", t.measured)?;
-    print_named(rt, b", written ", t.written)?;
-    print_named(rt, b", disagree ", t.disagree)
+// Tries formats of an alphabet, with a seed and as many as a text says.
+pub fn random(rt: &impl Print, alphabet: &[u8], text: &[u8]) -> io::Result<()> {
+    let (seed, behind) = number(text, b'/', 1);
+    let (count, _) = number(behind, b'/', 1);
+    let counts = try_all(alphabet, seed, count);
+    print!(rt;
+        ": formats {count}, measured {}, written {}",
+        counts.measured, counts.written
+    )?;
+    print!(rt; ", disagree {}", counts.disagree)
 }

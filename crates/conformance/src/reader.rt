@@ -1,236 +1,193 @@
 // Bytes and numbers as a line of text writes them: "AB" for a text's bytes, FE or 0304FE for bytes in hexadecimal, i-2 for
 // the field of an integer in a value list. A `*` and a number behind one of them repeat it. Spaces between them mean
-// nothing. What a buffer has no room for is left out.
-use crate::scan::find;
+// nothing. What a buffer has no room for is left out. What is read is given with the text behind it.
+ghost use Rattle.std.specs.Prelude.{◌<◌, ◌≤◌, length, IfSome};
 
-// The byte at a place, or a line feed past the end.
-pub fn peek(s: &[u8], at: usize) -> u8 {
-    if at < s.len() { s[at] } else { b'\n' }
+use crate::parts::front;
+
+// What a text begins with as long as a test holds, and the text behind it.
+pub fn split_while<F: Fn(u8) -> bool>(text: &[u8], test: F) -> (&[u8], &[u8])
+    requires { F.IsAlwaysCallable test }
+    ensures { length result.1.now ≤ length text.now }
+{
+    let end = text.iter().position(|b| !test(*b)).unwrap_or(text.len());
+    text.split_at(end)
 }
 
-// The place behind one byte.
-pub fn behind(at: usize) -> usize {
-    std::num::wrapping_add_usize(at, 1)
+// The text behind the spaces at its front.
+fn after_spaces(text: &[u8]) -> &[u8]
+    ensures { length result.now ≤ length text.now }
+{
+    split_while(text, |b| b == b' ').1
 }
 
-// The place behind a byte if it stands at a place.
-fn behind_if(s: &[u8], at: usize, b: u8) -> usize {
-    std::num::wrapping_add_usize(at, (peek(s, at) == b) as usize)
-}
-
-// A hexadecimal digit, in upper case; 16 of any other byte.
-fn digit(b: u8) -> u64 {
-    find(b"0123456789ABCDEF", 0, 16, b) as u64
-}
-
-// A number, and the place behind it.
-#[derive(Clone, Copy)]
-pub struct Numeral {
-    pub value: u64,
-    pub at: usize,
-}
-
-// The number whose digits stand at a place.
-fn digits_at(s: &[u8], at: usize) -> Numeral {
-    let mut value = 0;
-    let mut i = at;
-    while i < s.len() {
-        let d = digit(s[i]);
-        if d > 9 {
-            return Numeral { value, at: i };
-        }
-        value = std::num::wrapping_add_u64(std::num::wrapping_add_u64(value << 3, value << 1), d);
-        i += 1;
-    }
-    Numeral { value, at: i }
-}
-
-// A word, or where minus is 1 its opposite: every bit turned, and 1 added.
-pub fn signed(word: u64, minus: u64) -> u64 {
-    std::num::wrapping_add_u64(word ^ std::num::wrapping_sub_u64(0, minus), minus)
-}
-
-// The same behind a `-` that may stand there.
-fn number_at(s: &[u8], at: usize) -> Numeral {
-    let from = behind_if(s, at, b'-');
-    let n = digits_at(s, from);
-    Numeral {
-        value: signed(n.value, (from != at) as u64),
-        at: n.at,
+// The text behind its first byte.
+fn after_one(text: &[u8]) -> &[u8]
+    ensures { length result.now ≤ length text.now }
+{
+    match text {
+        [_, rest @ ..] => rest,
+        [] => text,
     }
 }
 
-// The number behind a mark at a place, or another one where the mark is missing. A space may stand before and behind it.
-pub fn number(s: &[u8], at: usize, mark: u8, otherwise: u64) -> Numeral {
-    if peek(s, at) != mark {
-        return Numeral {
-            value: otherwise,
-            at,
-        };
-    }
-    let n = number_at(s, behind_if(s, behind(at), b' '));
-    Numeral {
-        value: n.value,
-        at: behind_if(s, n.at, b' '),
-    }
+// The word at a text's front, and the text behind it and a space.
+pub fn word_of(text: &[u8]) -> (&[u8], &[u8]) {
+    let (word, behind) = split_while(text, |b| b != b' ');
+    (word, after_one(behind))
 }
 
-// What has been read so far.
-#[derive(Clone, Copy)]
-pub struct Reader {
-    // The place of the next byte, and what it belongs to: `step` has the kinds.
-    pub at: usize,
-    kind: u8,
-    // The integer whose field is being read.
-    word: u64,
-    // The place of the part that is being read, and how often it has been read before.
-    start: usize,
-    times: u64,
-    // How many bytes there are, and the last one.
-    pub n: usize,
-    byte: u8,
-}
-
-// One byte more, and the place behind it.
-fn with_byte(mut c: Reader, b: u8, at: usize) -> Reader {
-    c.byte = b;
-    c.n = behind(c.n);
-    c.at = at;
-    c
-}
-
-// What a byte between parts begins; behind it may stand a number.
-fn between(mut c: Reader, b: u8, n: Numeral) -> Reader {
-    c.start = c.at;
-    c.kind = b;
+// A hexadecimal digit, in upper case.
+fn digit(b: u8) -> Option<u8>
+    ensures { IfSome result (λ d. d < 16) }
+{
     match b {
-        b' ' => c.at = behind(c.at),
-        b'"' => c.at = behind(c.at),
-        b'i' => {
-            c.word = n.value;
-            c.at = n.at;
-            c.kind = 11;
+        b'0'..=b'9' => Some(b - b'0'),
+        b'A'..=b'F' => Some(b - b'A' + 10),
+        _ => None,
+    }
+}
+
+// A number in decimal digits, by its lowest 64 bits, which may have a `-` before it.
+fn integer(text: &[u8]) -> (u64, &[u8])
+    ensures { length result.1.now ≤ length text.now }
+{
+    if let [b'-', rest @ ..] = text {
+        let (n, behind) = natural(rest);
+        return (n.wrapping_neg(), behind);
+    }
+    natural(text)
+}
+
+fn natural(text: &[u8]) -> (u64, &[u8])
+    ensures { length result.1.now ≤ length text.now }
+{
+    let (digits, behind) = split_while(text, |b| b.is_ascii_digit());
+    let value = digits.iter().fold(0u64, |n, b| {
+        n.wrapping_mul(10).wrapping_add(u64::from(*b % 16))
+    });
+    (value, behind)
+}
+
+// The number behind a mark at a text's front, or another one where the mark is missing. Spaces may stand before and behind it.
+pub fn number(text: &[u8], mark: u8, otherwise: u64) -> (u64, &[u8]) {
+    match text.split_first() {
+        Some((first, rest)) if *first == mark => {
+            let (n, behind) = integer(after_spaces(rest));
+            (n, after_spaces(behind))
         }
-        _ => c.kind = if digit(b) < 16 { b'h' } else { b'.' },
-    }
-    c
-}
-
-fn in_text(mut c: Reader, b: u8) -> Reader {
-    let next = behind(c.at);
-    match b {
-        b'"' => {
-            c.at = next;
-            c.kind = 0;
-            c
-        }
-        _ => with_byte(c, b, next),
+        _ => (otherwise, text),
     }
 }
 
-// The two digits of a byte, or the end of the digits.
-fn in_digits(mut c: Reader, b: u8, low: u8) -> Reader {
-    let high = digit(b);
-    if high > 15 {
-        c.kind = 0;
-        return c;
-    }
-    let byte = (high << 4) | digit(low);
-    with_byte(c, (byte % 256) as u8, behind(behind(c.at)))
-}
-
-// The next byte of an integer's field: a tag and a length in three bytes, and the integer in eight.
-fn in_field(mut c: Reader) -> Reader {
-    let left = std::num::wrapping_sub_u8(c.kind, 1);
-    let word = if left > 7 { 0x010008 } else { c.word };
-    c.kind = left;
-    let byte = (word >> ((left % 8) as u64 * 8)) % 256;
-    with_byte(c, byte as u8, c.at)
-}
-
-// Behind a part: it is read again, as often as the number behind a `*` says.
-fn behind_part(mut c: Reader, b: u8, n: Numeral) -> Reader {
-    c.kind = b' ';
-    if b != b'*' {
-        return c;
-    }
-    let times = std::num::wrapping_add_u64(c.times, 1);
-    if times < n.value {
-        c.times = times;
-        c.at = c.start;
-        return c;
-    }
-    c.times = 0;
-    c.at = n.at;
-    c
-}
-
-// Reads the byte at the reader's place. The kinds:
-//   ' ' between parts    '"' in a text     'h' in hexadecimal digits
-//   1 to 11              as many bytes of an integer's field are left
-//   0 behind a part      '.' at the end
-fn step(c: Reader, s: &[u8]) -> Reader {
-    let b = peek(s, c.at);
-    let next = behind(c.at);
-    let kind = c.kind;
-    match kind {
-        b' ' => between(c, b, number_at(s, next)),
-        b'"' => in_text(c, b),
-        b'h' => in_digits(c, b, peek(s, next)),
-        0 => behind_part(c, b, number_at(s, next)),
-        _ => in_field(c),
-    }
-}
-
-// Stores the last of n bytes, if there is room.
-fn store_last(out: &mut [u8], n: usize, b: u8) {
-    let at = std::num::wrapping_sub_usize(n, 1);
-    if at < out.len() {
-        out[at] = b;
-    }
-}
-
-// The bytes that stand from a place on, up to what means none, at a buffer's front. A loop has to end: the turns are
-// counted down, from more than a line takes.
-pub fn bytes(s: &[u8], at: usize, out: &mut [u8]) -> Reader {
-    let mut c = Reader {
-        at,
-        kind: b' ',
-        word: 0,
-        start: at,
-        times: 0,
-        n: 0,
-        byte: 0,
-    };
-    let mut turns: u64 = 100000000;
-    while turns > 0 {
-        c = step(c, s);
-        store_last(out, c.n, c.byte);
-        if c.kind == b'.' {
-            return c;
-        }
-        turns -= 1;
-    }
-    c
-}
-
-// The arguments of a call: how many bytes its format has, and its list or data, and the places behind them.
+// A part of what is read: a text, hexadecimal digits, or the integer of a field.
 #[derive(Clone, Copy)]
-pub struct Arguments {
-    pub format: usize,
-    pub list: usize,
-    pub behind_format: usize,
-    pub at: usize,
+enum Part<'t> {
+    Text(&'t [u8]),
+    Digits(&'t [u8]),
+    Field(u64),
 }
 
-// Puts the bytes of a format that stands at a place at a buffer's front, and those behind it and a mark at another's.
-pub fn take_arguments(s: &[u8], at: usize, format: &mut [u8], list: &mut [u8]) -> Arguments {
-    let f = bytes(s, at, format);
-    let l = bytes(s, behind(f.at), list);
+// The part that a text begins with, if it begins with one.
+fn part_of(text: &[u8]) -> Option<(Part<'_>, &[u8])>
+    ensures { IfSome result (λ r. length r.1.now < length text.now) }
+{
+    match text {
+        [b'"', rest @ ..] => {
+            let (quoted, behind) = split_while(rest, |b| b != b'"');
+            Some((Part::Text(quoted), after_one(behind)))
+        }
+        [b'i', rest @ ..] => {
+            let (n, behind) = integer(rest);
+            Some((Part::Field(n), behind))
+        }
+        [first, ..] => {
+            digit(*first)?;
+            let (digits, behind) = split_while(text, |b| digit(b).is_some());
+            Some((Part::Digits(digits), behind))
+        }
+        [] => None,
+    }
+}
+
+// How often the part before a text stands: once, or as often as is said behind a `*`.
+fn times(text: &[u8]) -> (u64, &[u8])
+    ensures { length result.1.now ≤ length text.now }
+{
+    match text {
+        [b'*', rest @ ..] => integer(rest),
+        _ => (1, text),
+    }
+}
+
+// Puts bytes into a buffer behind the first n, as far as there is room; how many there are then.
+pub fn put(out: &mut [u8], mut n: usize, bytes: &[u8]) -> usize {
+    for b in bytes {
+        if n < out.len() {
+            out[n] = *b;
+            n += 1;
+        }
+    }
+    n
+}
+
+// Puts the bytes of hexadecimal digits, two for each.
+fn put_digits(out: &mut [u8], mut n: usize, mut digits: &[u8]) -> usize {
+    while let [high, low, rest @ ..] = digits {
+        let byte = digit(*high).unwrap_or(0) * 16 + digit(*low).unwrap_or(0);
+        n = put(out, n, &[byte]);
+        digits = rest;
+    }
+    n
+}
+
+// Puts a part. A field has a tag and a length in three bytes, and the integer in eight.
+fn put_part(out: &mut [u8], n: usize, part: Part<'_>) -> usize {
+    match part {
+        Part::Text(text) => put(out, n, text),
+        Part::Digits(digits) => put_digits(out, n, digits),
+        Part::Field(integer) => {
+            let start = put(out, n, &[1, 0, 8]);
+            put(out, start, &integer.to_be_bytes())
+        }
+    }
+}
+
+// The bytes that a text begins with, at a buffer's front.
+pub fn bytes<'t, 'b>(text: &'t [u8], out: &'b mut [u8]) -> (&'b [u8], &'t [u8]) {
+    let mut n = 0;
+    let mut left = after_spaces(text);
+    while let Some((part, behind)) = part_of(left) {
+        let (count, behind) = times(behind);
+        for _ in 0..count {
+            n = put_part(out, n, part);
+        }
+        left = after_spaces(behind);
+    }
+    (front(out, n), left)
+}
+
+// The arguments of a call: its format, its list or data, and the text behind each.
+#[derive(Clone, Copy)]
+pub struct Arguments<'t, 'b> {
+    pub format: &'b [u8],
+    pub list: &'b [u8],
+    pub behind_format: &'t [u8],
+    pub behind: &'t [u8],
+}
+
+// Reads the bytes of a format and those behind it and a mark, each into a buffer.
+pub fn take_arguments<'t, 'b>(
+    text: &'t [u8],
+    format: &'b mut [u8],
+    list: &'b mut [u8],
+) -> Arguments<'t, 'b> {
+    let (format, behind_format) = bytes(text, format);
+    let (list, behind) = bytes(after_one(behind_format), list);
     Arguments {
-        format: f.n,
-        list: l.n,
-        behind_format: f.at,
-        at: l.at,
+        format,
+        list,
+        behind_format,
+        behind,
     }
 }

@@ -6,61 +6,112 @@
 //   l FORMAT / PAIRS = LEAST / GREATEST      a range of lengths
 // A refusal has ! in place of = and what follows it; behind that of a tray stands / PLACE, and behind that of a range its
 // number. `compare/run record FILE` makes the lines.
-use crate::answers::{Answer, called, range, size};
-use crate::parts::{FILL, front};
-use crate::reader::{behind, bytes, number, peek, take_arguments};
+use crate::parts::FILL;
+use crate::reader::{bytes, number, take_arguments};
+use definition::Refusal;
+use lengths::Range;
+use measure::string_packsize;
+use range::packsize_range;
+use read::string_unpack;
+use tray::{TrayRefusal, pack_tray};
+use write::string_pack;
 
-// The mark of an answer, and of a refusal.
-fn mark(refusal: u8) -> u8 {
-    match refusal {
-        0 => b'=',
-        _ => b'!',
-    }
+// What writing, a tray or reading answers: a length, and the next position of reading, 0 of the others.
+#[derive(Clone, Copy)]
+struct Answer {
+    length: u64,
+    next: u64,
 }
 
-// Whether a number stands behind a mark at a place, and ends the line; 0 where there is no mark.
-fn has_number(s: &[u8], at: usize, mark: u8, x: u64) -> bool {
-    let n = number(s, at, mark, 0);
-    (n.value == x) & (peek(s, n.at) == b'\n')
+fn written(format: &[u8], list: &[u8], out: &mut [u8]) -> Result<Answer, TrayRefusal> {
+    let length = string_pack(format, list, out)?;
+    Ok(Answer { length, next: 0 })
 }
 
-// Whether the answer at a place is ours: the same bytes at the front of the buffer, and no other byte changed; the same
+fn put_on_tray(format: &[u8], run: &[u8], out: &mut [u8]) -> Result<Answer, TrayRefusal> {
+    let length = pack_tray(format, run, out)?;
+    Ok(Answer { length, next: 0 })
+}
+
+fn read_from(
+    format: &[u8],
+    data: &[u8],
+    start: u64,
+    out: &mut [u8],
+) -> Result<Answer, TrayRefusal> {
+    let unpacked = string_unpack(format, data, start.cast_signed(), out)?;
+    Ok(Answer {
+        length: unpacked.length,
+        next: unpacked.next.0,
+    })
+}
+
+// Whether a number stands behind a mark, and ends the line; 0 where there is no mark.
+fn has_number(text: &[u8], mark: u8, x: u64) -> bool {
+    let (n, behind) = number(text, mark, 0);
+    n == x && behind.is_empty()
+}
+
+// Whether the answer that a text says is ours: the same bytes at the front of the buffer, and no other byte changed; the same
 // next position, or place of a refused record, if there is one. Behind the mark of a refusal stand no bytes.
-fn is_answer(s: &[u8], at: usize, a: Answer, out: &[u8]) -> bool {
+fn is_answer(text: &[u8], answer: Result<Answer, TrayRefusal>, out: &[u8]) -> bool {
+    let (mark, length, x) = match answer {
+        Ok(a) => (b'=', a.length, a.next),
+        Err(refused) => (b'!', 0, refused.place),
+    };
+    let Some((first, rest)) = text.split_first() else {
+        return false;
+    };
     let mut expected = [FILL; 1024];
-    let e = bytes(s, behind(at), &mut expected);
-    let marked = peek(s, at) == mark(a.refusal);
-    marked
-        & (e.n as u64 == a.length)
-        & has_number(s, e.at, b'/', a.next)
-        & (out == expected.as_slice())
+    let (given, behind) = bytes(rest, &mut expected);
+    let is_length = given.len() as u64 == length;
+    *first == mark && is_length && has_number(behind, b'/', x) && out == expected.as_slice()
 }
 
-// Whether the range at a place is ours: both lengths, or the number of the refusal.
-fn is_range(s: &[u8], at: usize, a: Answer) -> bool {
-    if a.refusal != 0 {
-        return has_number(s, at, b'!', a.refusal as u64);
+// Whether the size that a text says is ours.
+fn is_size(text: &[u8], answer: Result<u64, Refusal>) -> bool {
+    match answer {
+        Ok(size) => has_number(text, b'=', size),
+        Err(_) => text == b"!".as_slice(),
     }
-    let least = number(s, at, b'=', 0);
-    (least.value == a.length) & has_number(s, least.at, b'/', a.next)
 }
 
-// Whether our answer to a line's case is the recorded one.
-pub fn is_same(s: &[u8]) -> bool {
-    let mut buffer = [0u8; 1024];
-    let mut list = [0u8; 1024];
-    let g = take_arguments(s, 1, &mut buffer, &mut list);
-    let format = front(&buffer, g.format);
-    let call = peek(s, 0);
-    if call == b'm' {
-        let m = size(format);
-        return has_number(s, g.behind_format, mark(m.refusal), m.length);
+// Whether the range that a text says is ours: both lengths, or the number of the refusal.
+fn is_range(text: &[u8], answer: Result<Range, Refusal>) -> bool {
+    match answer {
+        Ok(range) => {
+            let (least, behind) = number(text, b'=', 0);
+            least == range.least && has_number(behind, b'/', range.greatest)
+        }
+        Err(refusal) => has_number(text, b'!', u64::from(refusal.number())),
     }
-    if call == b'l' {
-        return is_range(s, g.at, range(format, front(&list, g.list)));
-    }
-    let start = number(s, g.at, b'/', 1);
+}
+
+// Whether our answer to a line's case is the recorded one. The letters stand here alone, so they are no enum.
+pub fn is_same(line: &[u8]) -> bool {
+    let Some((letter, text)) = line.split_first() else {
+        return false;
+    };
+    let mut format_room = [0u8; 1024];
+    let mut list_room = [0u8; 1024];
+    let a = take_arguments(text, &mut format_room, &mut list_room);
     let mut out = [FILL; 1024];
-    let a = called(call, format, front(&list, g.list), start.value, &mut out);
-    is_answer(s, start.at, a, &out)
+    match letter {
+        b'm' => is_size(a.behind_format, string_packsize(a.format)),
+        b'l' => is_range(a.behind, packsize_range(a.format, a.list)),
+        b'w' => {
+            let answer = written(a.format, a.list, &mut out);
+            is_answer(a.behind, answer, &out)
+        }
+        b't' => {
+            let answer = put_on_tray(a.format, a.list, &mut out);
+            is_answer(a.behind, answer, &out)
+        }
+        b'r' => {
+            let (start, behind) = number(a.behind, b'/', 1);
+            let answer = read_from(a.format, a.list, start, &mut out);
+            is_answer(behind, answer, &out)
+        }
+        _ => false,
+    }
 }

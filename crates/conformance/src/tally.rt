@@ -1,47 +1,38 @@
 // How many cases of a group hold.
-use crate::parts::part;
-use crate::show::{print, print_line, print_named};
-use align::start;
-use definition::State;
+use crate::show::print_line;
 use std::io;
 
-// A group: its kind, where its name stands in the text, and how many of its cases hold so far; the state that continued
-// writing is in.
+// A group's name, and how many of its cases hold so far.
 #[derive(Clone, Copy)]
-pub struct Group {
-    pub kind: u8,
-    name: usize,
-    end: usize,
+pub struct Tally<'a> {
+    name: &'a [u8],
     count: u64,
-    pub state: State,
 }
 
-// A group without a case.
-pub fn group_at(kind: u8, name: usize, end: usize) -> Group {
-    Group {
-        kind,
-        name,
-        end,
-        count: 0,
-        state: start(),
+impl<'a> Tally<'a> {
+    // Of a group without a case.
+    pub fn new(name: &'a [u8]) -> Tally<'a> {
+        Tally { name, count: 0 }
     }
-}
 
-// One case more; its line is written if it does not hold.
-pub fn counted(rt: &impl Print, mut g: Group, holds: bool, line: &[u8]) -> io::Result<Group> {
-    if holds {
-        g.count = std::num::wrapping_add_u64(g.count, 1);
-        return Ok(g);
+    // One case more; its line is written if it does not hold.
+    pub fn counted(self, rt: &impl Print, holds: bool, line: &[u8]) -> io::Result<Tally<'a>> {
+        if !holds {
+            print_line(rt, line)?;
+            return Ok(self);
+        }
+        Ok(Tally {
+            name: self.name,
+            count: self.count.saturating_add(1),
+        })
     }
-    print_line(rt, line)?;
-    Ok(g)
-}
 
-// Writes a group's name and how many of its cases hold, if one does.
-pub fn report(rt: &impl Print, s: &[u8], g: Group) -> io::Result<()> {
-    if g.count == 0 {
-        return Ok(());
+    // Writes the name and how many cases hold, if one does.
+    pub fn report(self, rt: &impl Print) -> io::Result<()> {
+        if self.count == 0 {
+            return Ok(());
+        }
+        rt.write_all(self.name)?;
+        println!(rt; "{} ok", self.count)
     }
-    print_named(rt, part(s, g.name, g.end), g.count)?;
-    print(rt, b" ok\n")
 }

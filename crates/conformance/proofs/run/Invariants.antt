@@ -1,6 +1,0 @@
--- `run` ends with its input: each turn goes on behind the end of a line.
-use Rattle.std.proofs.Common.{◌-◌, length}
-use Rattle.conformance.proofs.run.Given as goal
-
-abbrev pub decreases-loop-at : goal.decreases-loop-at
-decreases-loop-at g l = length l.s - l.at
