@@ -25,7 +25,8 @@ fn measure_pad(s: State, natural: u64, n: u64) -> Result<State, Refusal>
     if p == 0 {
         return longer(s, n);
     }
-    longer(longer(s, p)?, n)
+    let t = longer(s, p)?;
+    longer(t, n)
 }
 
 // The size of a field; z and s have none.

@@ -7,8 +7,8 @@ use Rattle.options.specs.Packed.{table_at}
 use Rattle.measure.proofs.Runs.{Ran}
 use Rattle.measure.proofs.measure_from.Given as goal
 
-abbrev pub invariant-loop-k : goal.invariant-loop-k
-invariant-loop-k l = Ran measure_op (table_at l.table) (measure_from (table_at l.table) l.initial.s l.format) l.format l.c.at l.s × Limited l.s
+abbrev pub invariant-loop-item : goal.invariant-loop-item
+invariant-loop-item l = Ran measure_op (table_at l.table.entries) (measure_from (table_at l.table.entries) l.initial.s l.format) l.format l.c.at l.s × Limited l.s
 
-abbrev pub decreases-loop-k : goal.decreases-loop-k
-decreases-loop-k l = length l.format - l.c.at
+abbrev pub decreases-loop-item : goal.decreases-loop-item
+decreases-loop-item l = length l.format - l.c.at
