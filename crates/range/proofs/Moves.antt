@@ -21,35 +21,34 @@ use Rattle.range.specs.Places.{with_length, places_of}
 use Rattle.range.specs.declared.Place.{Place}
 
 -- what both lengths have behind them stays in order
-pub zeros_order : (u s : State) (n a b : ℕ) → accepted (range a b) ≡ paddings (places u s []) n → u.limit ≡ s.limit → u.length ≤ s.length → (j k : ℕ) → j ≤ k → u.length + (a + j) ≤ s.length + (b + k)
-zeros_order u s n a b e l h j k i =
+pub zeros_order : (u s : State) (n : ℕ) (z : Range) → accepted z ≡ paddings (places u s []) n → u.limit ≡ s.limit → u.length ≤ s.length → (j k : ℕ) → j ≤ k → u.length + (z.least + j) ≤ s.length + (z.greatest + k)
+zeros_order u s n z e l h j k i =
     let x = bound (padding u n) _ (sym e) in
     let y = bound (padding s n) (λ b. accepted (range x.val b)) x.rest in
-    let z : range x.val y.val ≡ range a b = same y.rest in
     let before : Before u s = record { limits = l; lengths = h } in
     let o = (item_before u s n x.val y.val j k before x.is y.is i).lengths in
-    subst (λ (r : Range). u.length + (r.least + j) ≤ s.length + (r.greatest + k)) z o
+    subst (λ (r : Range). u.length + (r.least + j) ≤ s.length + (r.greatest + k)) (same y.rest) o
 
 -- ---- zeros and bytes on: the greatest length by two steps
-module _ (p : Place) (a m b n at : ℕ) where
-  pub refused_zeros : {k : ℕ} → refused k ≡ longer p.greatest b → (q : List ℕ) → refused k ≡ onward (places_of q p) (range a b) (range m n, drop at q)
-  refused_zeros e q = rw (← longer_twice p.greatest b n, ← e)
+module _ (p : Place) (z m : Range) (at : ℕ) where
+  pub refused_zeros : {k : ℕ} → refused k ≡ longer p.greatest z.greatest → (q : List ℕ) → refused k ≡ onward (places_of q p) z (m, drop at q)
+  refused_zeros e q = rw (← longer_twice p.greatest z.greatest m.greatest, ← e)
 
-  module _ (s : State) (e : accepted s ≡ longer p.greatest b) where
-    pub refused_bytes : {k : ℕ} → refused k ≡ longer s n → (q : List ℕ) → refused k ≡ onward (places_of q p) (range a b) (range m n, drop at q)
-    refused_bytes g q = rw (← longer_twice p.greatest b n, ← e, ← g)
+  module _ (s : State) (e : accepted s ≡ longer p.greatest z.greatest) where
+    pub refused_bytes : {k : ℕ} → refused k ≡ longer s m.greatest → (q : List ℕ) → refused k ≡ onward (places_of q p) z (m, drop at q)
+    refused_bytes g q = rw (← longer_twice p.greatest z.greatest m.greatest, ← e, ← g)
 
-    module _ (t : State) (g : accepted t ≡ longer s n) where
-      last : longer p.greatest (b + n) ≡ accepted t
-      last = sym (longer_twice p.greatest b n) ∙ rw (← e, ← g)
+    module _ (t : State) (g : accepted t ≡ longer s m.greatest) where
+      last : longer p.greatest (z.greatest + m.greatest) ≡ accepted t
+      last = sym (longer_twice p.greatest z.greatest m.greatest) ∙ rw (← e, ← g)
 
-      pub room : p.greatest.length + (b + n) ≤ 2 ^ 63 - 1
-      room = leb-true (p.greatest.length + (b + n)) (2 ^ 63 - 1) (longer_room p.greatest t (b + n) last).0
+      pub room : p.greatest.length + (z.greatest + m.greatest) ≤ 2 ^ 63 - 1
+      room = leb-true (p.greatest.length + (z.greatest + m.greatest)) (2 ^ 63 - 1) (longer_room p.greatest t (z.greatest + m.greatest) last).0
 
-      pub arrived : (q : List ℕ) → accepted (places (with_length t (p.least + (a + m))) t (drop at q)) ≡ onward (places_of q p) (range a b) (range m n, drop at q)
+      pub arrived : (q : List ℕ) → accepted (places (with_length t (p.least + (z.least + m.least))) t (drop at q)) ≡ onward (places_of q p) z (m, drop at q)
       arrived q =
-          let there : further p.greatest (b + n) ≡ t = (longer_room p.greatest t (b + n) last).1 in
-          rw last (ap (λ (x : State). accepted (places (with_length x (p.least + (a + m))) t (drop at q))) (sym there))
+          let there : further p.greatest (z.greatest + m.greatest) ≡ t = (longer_room p.greatest t (z.greatest + m.greatest) last).1 in
+          rw last (ap (λ (x : State). accepted (places (with_length x (p.least + (z.least + m.least))) t (drop at q))) (sym there))
 
 -- the greatest text of a field has no fewer bytes than the least
 pub bytes_order : (f : Field) (q : List ℕ) (x : Range × List ℕ) → accepted x ≡ extents f q → x.0.least ≤ x.0.greatest

@@ -33,12 +33,6 @@ const PAIR: usize = 4;
 // The greatest length that a pair can say.
 const MAX_TEXT: u64 = 65535;
 
-fn range(least: u64, greatest: u64) -> Range
-    ensures { result ≡ ranges.range least greatest }
-{
-    Range { least, greatest }
-}
-
 // The bytes of the field of a text by the pair at an offset, and the offset behind it: the text has at most so many bytes, and the
 // field some more beside it.
 fn text_extents(pairs: &[u8], at: usize, beside: u64, most: u64) -> Result<(Range, usize), Refusal>
@@ -58,7 +52,11 @@ fn text_extents(pairs: &[u8], at: usize, beside: u64, most: u64) -> Result<(Rang
     if most < greatest {
         return Err(Refusal::TextDoesNotFit);
     }
-    Ok((range(beside + least, beside + greatest), at + PAIR))
+    let bytes = Range {
+        least: beside + least,
+        greatest: beside + greatest,
+    };
+    Ok((bytes, at + PAIR))
 }
 
 // The longest text, of those that a pair can say, that a length of size bytes can hold.
@@ -78,8 +76,13 @@ fn extents(f: Field, pairs: &[u8], at: usize) -> Result<(Range, usize), Refusal>
     ensures left_inside { IfOk result (λ x. x.1 ≤ length pairs.now) }
 {
     match f {
-        Field::Number(_, n) => Ok((range(n, n), at)),
-        Field::Chars(n) => Ok((range(n, n), at)),
+        Field::Number(_, n) | Field::Chars(n) => Ok((
+            Range {
+                least: n,
+                greatest: n,
+            },
+            at,
+        )),
         Field::ZeroEnded => text_extents(pairs, at, 1, MAX_TEXT),
         Field::Counted(n) => text_extents(pairs, at, n, most_counted(n)),
     }
@@ -91,9 +94,9 @@ fn paddings(s: State, least: u64, natural: u64) -> Result<Range, Refusal>
     requires positive { 1 ≤ natural }
     ensures { answer_of result ≡ ranges.paddings (ranges.places (with_length s least) s []) natural }
 {
-    let a = padding(state(s.big, s.limit, least), natural)?;
-    let b = padding(s, natural)?;
-    Ok(range(a, b))
+    let least = padding(state(s.big, s.limit, least), natural)?;
+    let greatest = padding(s, natural)?;
+    Ok(Range { least, greatest })
 }
 
 // The place some zeros and bytes on.
@@ -121,7 +124,11 @@ fn range_pad(p: Place, natural: u64, n: u64) -> Result<Place, Refusal>
     ensures place_inside { ((q : List ℕ) → p.at ≤ length q → IfOk result (λ x. x.at ≤ length q)) }
 {
     let zeros = paddings(p.greatest, p.least, natural)?;
-    onward(p, zeros, range(n, n), p.at)
+    let bytes = Range {
+        least: n,
+        greatest: n,
+    };
+    onward(p, zeros, bytes, p.at)
 }
 
 // The place after a field.
@@ -192,7 +199,10 @@ fn range_by(table: &OptionTable, format: &[u8], pairs: &[u8]) -> Result<Range, R
         p = place_parts(range_op(p, item.op(), pairs)?);
         c = next;
     }
-    Ok(range(p.least, p.greatest.length))
+    Ok(Range {
+        least: p.least,
+        greatest: p.greatest.length,
+    })
 }
 
 // The least and the greatest length of a record of a format: the pairs have, for each z or s in order, the least and the greatest

@@ -1,27 +1,30 @@
 -- The greatest length goes on by the zeros, then by the bytes; the least, which does not pass it, follows.
 use native.Mathlib.Omega.{arith}
+use Rattle.std.proofs.lemmas.Result.{err_from_is_err_and}
 use Rattle.range.proofs.Moves.{refused_zeros, refused_bytes, room, arrived}
 use Rattle.range.proofs.onward.Goals as goal
 
+pub returns-in_err-padded-clause-moved : goal.returns-in_err-padded-clause-moved
+returns-in_err-padded-clause-moved c q =
+    let p = err_from_is_err_and c.from_residual.result c.from_residual.ensures.1 in
+    rw (p.1, p.2) (refused_zeros c.args.p c.args.zeros c.args.bytes c.args.at (rw c.in_err-padded.was at c.longer.ensures) q)
+
+pub returns-in_err-greatest-clause-moved : goal.returns-in_err-greatest-clause-moved
+returns-in_err-greatest-clause-moved c q =
+    let p = err_from_is_err_and c.from_residual-in_err-greatest.result c.from_residual-in_err-greatest.ensures.1 in
+    rw (p.1, p.2) (refused_bytes _ c.args.zeros c.args.bytes c.args.at _ (rw c.in_ok-padded.was at c.longer.ensures) (rw c.in_err-greatest.was at c.longer-2.ensures) q)
+
+-- the greatest length fits, and the least does not pass it
 pub overflow_add-result : goal.overflow_add-result
 overflow_add-result c =
-    let g = c.args in
-    let fits = room g.p g.a g.m g.b g.n g.at _ (rw c.in-State.is at c.longer.ensures) _ (rw c.in-State-longer.is at c.longer-in-State.ensures) in
+    let fits = room c.args.p c.args.zeros c.args.bytes c.args.at _ (rw c.in_ok-padded.was at c.longer.ensures) _ (rw c.in_ok-greatest.was at c.longer-2.ensures) in
     omega (arith, fits)
 
-pub overflow_add-result-in-State-longer : goal.overflow_add-result-in-State-longer
-overflow_add-result-in-State-longer c =
-    let g = c.args in
-    let fits = room g.p g.a g.m g.b g.n g.at _ (rw c.in-State.is at c.longer.ensures) _ (rw c.in-State-longer.is at c.longer-in-State.ensures) in
+pub overflow_add-result-2 : goal.overflow_add-result-2
+overflow_add-result-2 c =
+    let fits = room c.args.p c.args.zeros c.args.bytes c.args.at _ (rw c.in_ok-padded.was at c.longer.ensures) _ (rw c.in_ok-greatest.was at c.longer-2.ensures) in
     omega (arith, fits)
 
-pub returns-in-Refused-clause-moved : goal.returns-in-Refused-clause-moved
-returns-in-Refused-clause-moved c = let g = c.args in refused_zeros g.p g.a g.m g.b g.n g.at (rw c.in-Refused.is at c.longer.ensures)
-
-pub returns-in-Refused-longer-clause-moved : goal.returns-in-Refused-longer-clause-moved
-returns-in-Refused-longer-clause-moved c =
-    let g = c.args in refused_bytes g.p g.a g.m g.b g.n g.at _ (rw c.in-State.is at c.longer.ensures) (rw c.in-Refused-longer.is at c.longer-in-State.ensures)
-
-pub returns-in-State-longer-clause-moved : goal.returns-in-State-longer-clause-moved
-returns-in-State-longer-clause-moved c =
-    let g = c.args in arrived g.p g.a g.m g.b g.n g.at _ (rw c.in-State.is at c.longer.ensures) _ (rw c.in-State-longer.is at c.longer-in-State.ensures)
+pub returns-clause-moved : goal.returns-clause-moved
+returns-clause-moved c =
+    arrived c.args.p c.args.zeros c.args.bytes c.args.at _ (rw c.in_ok-padded.was at c.longer.ensures) _ (rw c.in_ok-greatest.was at c.longer-2.ensures)

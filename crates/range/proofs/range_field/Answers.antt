@@ -8,5 +8,5 @@ use Rattle.range.proofs.range_field.Goals as goal
 
 pub onward-requires : goal.onward-requires
 onward-requires c =
-    zeros_order (with_length c.args.p.greatest c.args.p.least) c.args.p.greatest (natural c.args.f) _ _ (rw (c.in-Bytes.is, c.natural.ensures) at c.paddings.ensures) refl c.requires.ordered
-    _ _ (bytes_order c.args.f (drop c.args.p.at c.args.pairs.now) _ (rw c.in-Bytes-extents.is at c.extents.ensures.extents))
+    zeros_order (with_length c.args.p.greatest c.args.p.least) c.args.p.greatest (natural c.args.f) _ (rw (c.in_ok-zeros.was, c.natural.ensures) at c.paddings.ensures) refl c.requires.ordered
+    _ _ (bytes_order c.args.f (drop c.args.p.at c.args.pairs.now) _ (rw c.in_ok-bytes.was at c.extents.ensures.extents))

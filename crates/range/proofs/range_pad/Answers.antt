@@ -7,5 +7,5 @@ use Rattle.range.proofs.range_pad.Goals as goal
 
 pub onward-requires : goal.onward-requires
 onward-requires c =
-    zeros_order (with_length c.args.p.greatest c.args.p.least) c.args.p.greatest c.args.natural _ _ (rw c.in-Bytes.is at c.paddings.ensures) refl c.requires.ordered
+    zeros_order (with_length c.args.p.greatest c.args.p.least) c.args.p.greatest c.args.natural _ (rw c.in_ok-zeros.was at c.paddings.ensures) refl c.requires.ordered
     c.args.n c.args.n (omega arith)
