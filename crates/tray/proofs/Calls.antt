@@ -5,10 +5,12 @@ use mathlib.Core.Path.{◌≡◌, sym, ap, ◌∙◌}
 use mathlib.Core.List.{List, ◌++◌}
 use lib.ListN.{length, drop}
 use borrow.Author.Tests.{lt-leb}
+use Rattle.std.specs.Prelude.{Result, Ok, Err}
 use Rattle.definition.specs.Trays.{Placed, records_of, tray_into, pack_tray}
 use Rattle.laws.proofs.Calls.{into_fits}
-use Rattle.tray.specs.Walks.{Counted, Told, put_in, tray_call_of}
-use Rattle.tray.specs.declared.Tray.{Tray}
+use Rattle.definition.specs.declared.Refusal.{Refusal}
+use Rattle.tray.specs.Walks.{Counted, unplaced, Told, put_in, tray_call_of}
+use Rattle.tray.specs.declared.TrayRefusal.{TrayRefusal}
 
 -- w are the records of a format f and a run r; g is the buffer after the first walk, which is as it was
 module _ (f r b : List ℕ) {w : Placed (List ℕ)} (are : w ≡ records_of f r) {g : List ℕ} (kept : g ≡ b) where
@@ -16,15 +18,15 @@ module _ (f r b : List ℕ) {w : Placed (List ℕ)} (are : w ≡ records_of f r)
   unfolding pack_tray
   call_is e = ap (tray_into b) (sym e ∙ are)
 
-  pub refused_call : {t : Tray} {k p : ℕ} → t ≡ Tray.Refused k p → Told w t → tray_call_of t g ≡ pack_tray f r b
-  refused_call e h = rw (kept, e) (call_is (rw e at h))
+  pub refused_call : {t : Result ℕ TrayRefusal} {e : TrayRefusal} → t ≡ Err e → Told w t → tray_call_of (Err e) g ≡ pack_tray f r b
+  refused_call i h = rw kept (call_is (rw i at h))
 
   -- the first walk told the length n
-  module _ {t : Tray} {n : ℕ} (told : t ≡ Tray.Length n) (h : Told w t) (small : length b < 2 ^ 63) where
+  module _ {t : Result ℕ TrayRefusal} {n : ℕ} (told : t ≡ Ok n) (h : Told w t) (small : length b < 2 ^ 63) where
     counted : Counted w n
     counted = rw told at h
 
-    pub short_call : length g < n → tray_call_of (Tray.Refused 22 0) g ≡ pack_tray f r b
+    pub short_call : length g < n → tray_call_of (Err (unplaced Refusal.ResultTooLong)) g ≡ pack_tray f r b
     short_call k =
         let m : length b < length counted.bytes = omega (arith, counted.counts, ap length kept) in
         rw kept ((rw (lt-leb (length counted.bytes) (length b) m)) ∙ call_is counted.is)
@@ -34,10 +36,10 @@ module _ (f r b : List ℕ) {w : Placed (List ℕ)} (are : w ≡ records_of f r)
       exact = omega (arith, counted.counts, ap length kept)
 
       -- the second walk makes d of it
-      pub filled_call : {d : List ℕ} → d ≡ put_in g w.answer → tray_call_of (Tray.Length n) d ≡ pack_tray f r b
+      pub filled_call : {d : List ℕ} → d ≡ put_in g w.answer → tray_call_of (Ok n) d ≡ pack_tray f r b
       filled_call {d} q =
           let bs = counted.bytes in
           let m : length bs ≤ length b = omega (arith, exact, ap length kept) in
           let front : d ≡ bs ++ drop (length bs) b = q ∙ ap (λ (x : List ℕ). put_in x w.answer) kept ∙ ap (λ (t : Placed (List ℕ)). put_in b t.answer) counted.is in
-          ap (λ (x : List ℕ). tray_call_of (Tray.Length n) x) front ∙ ap (λ (x : ℕ). tray_call_of (Tray.Length x) (bs ++ drop (length bs) b)) (sym exact)
+          ap (λ (x : List ℕ). tray_call_of (Ok n) x) front ∙ ap (λ (x : ℕ). tray_call_of (Ok x) (bs ++ drop (length bs) b)) (sym exact)
           ∙ sym (sym (call_is counted.is) ∙ rw (into_fits b (length bs) bs m))

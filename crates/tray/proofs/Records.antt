@@ -6,7 +6,10 @@ use mathlib.Core.Bool.{true, false}
 use mathlib.Core.List.{List, ◌++◌}
 use lib.ListN.{length, drop}
 use borrow.Author.Tests.{leb-true}
+use Rattle.std.specs.Prelude.{Result, Ok, Err, IsOk}
+use borrow.Author.Rules.{rules}
 use Rattle.definition.specs.Answers.{Checked, refused, accepted}
+use Rattle.definition.specs.Refusals.{answer_of}
 use Rattle.definition.specs.Options.{Table, options}
 use Rattle.definition.specs.Ops.{ops, is_power}
 use Rattle.definition.specs.Values.{Value}
@@ -16,9 +19,9 @@ use Rattle.definition.specs.Calls.{pack, at_most_63, record_of, continued_of}
 use Rattle.definition.specs.Kept.{output_of}
 use Rattle.definition.specs.declared.State.{State}
 use Rattle.definition.specs.declared.Continued.{Continued}
+use Rattle.definition.specs.declared.Refusal.{Refusal}
 use Rattle.laws.proofs.Answers.{Bound, never, same, bound, both_parts, true_not_false}
 use Rattle.laws.proofs.Calls.{Sound, pack_run, packed, next_sound, length_record}
-use Rattle.laws.proofs.Ops.{Sizes, options_sizes}
 use Rattle.laws.proofs.ReadBack.{length_written}
 use Rattle.values.specs.Meaning.{is_accepted}
 use Rattle.values.proofs.Lists.{refused_list}
@@ -26,9 +29,6 @@ use Rattle.emit.proofs.Pasting.{paste_whole}
 use Rattle.write_pass.specs.Walks.{values_of, summed, FitsAt, put_at}
 use Rattle.write_pass.proofs.Stepping.{list_known}
 use Rattle.tray.specs.Walks.{bytes_from, RecordFits}
-
-pub sizes : {t : Table} → t ≡ options → Sizes t
-sizes is = subst Sizes (sym is) options_sizes
 
 -- ---- of a state s, a format f and a list l
 module _ (s : State) (f l : List ℕ) where
@@ -76,12 +76,16 @@ module _ {s : State} {f l : List ℕ} {n : ℕ} (h : RecordFits s f l n) where
       go true e = refl
       go false e = absurd (true_not_false (sym h.accepts ∙ rw (sound, refused_list l e)))
 
-  pub not_refused : {k : ℕ} → refused k ≡ summed (pack s f l) → ⊥
+  not_refused : {k : ℕ} → refused k ≡ summed (pack s f l) → ⊥
   not_refused {k} e = go (pack s f l) h.accepts e
     where
       go : (c : Checked (Place Value × Output)) → is_accepted c ≡ true → refused k ≡ summed c → ⊥
       go (refused j) a e = true_not_false (sym a)
       go (accepted r) a e = never e
+
+  pub is_ok : (r : Result Continued Refusal) → answer_of r ≡ summed (pack s f l) → IsOk r
+  is_ok (Ok c) e = search rules
+  is_ok (Err r) e = absurd (not_refused e)
 
   pub fits_at : FitsAt n 0 (pack s f l)
   fits_at = go (pack s f l) h.accepts h.room

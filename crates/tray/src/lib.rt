@@ -70,9 +70,7 @@ fn put_record(
     ensures length { result ≡ length (bytes_from state format.now list.now) }
     ensures bytes { out.new ≡ bytes_from state format.now list.now ++ drop result out.old }
 {
-    let Ok(record) = pass(table, format, list, state, out, true) else {
-        unreachable!();
-    };
+    let record = pass(table, format, list, state, out, true).unwrap();
     record.written as usize
 }
 
@@ -126,8 +124,7 @@ fn put_tray(table: &OptionTable, format: &[u8], state: State, run: &[u8], out: &
 {
     let mut at = 0;
     let mut end = 0;
-    // The first walk has come to the run's end, so nothing else ends this one.
-    while let Ok(Some((from, next))) = list_at(run, at) {
+    while let Some((from, next)) = list_at(run, at).unwrap() {
         end += put_record(table, format, state, &run[from..next], &mut out[end..]);
         at = next;
     }

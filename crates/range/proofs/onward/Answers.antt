@@ -12,7 +12,7 @@ returns-in_err-padded-clause-moved c q =
 pub returns-in_err-greatest-clause-moved : goal.returns-in_err-greatest-clause-moved
 returns-in_err-greatest-clause-moved c q =
     let p = err_from_is_err_and c.from_residual-in_err-greatest.result c.from_residual-in_err-greatest.ensures.1 in
-    rw (p.1, p.2) (refused_bytes _ c.args.zeros c.args.bytes c.args.at _ (rw c.in_ok-padded.was at c.longer.ensures) (rw c.in_err-greatest.was at c.longer-2.ensures) q)
+    rw (p.1, p.2) (refused_bytes c.args.p c.args.zeros c.args.bytes c.args.at _ (rw c.in_ok-padded.was at c.longer.ensures) (rw c.in_err-greatest.was at c.longer-2.ensures) q)
 
 -- the greatest length fits, and the least does not pass it
 pub overflow_add-result : goal.overflow_add-result

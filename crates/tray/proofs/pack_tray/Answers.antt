@@ -1,11 +1,11 @@
 -- The settings at the format's front, the first walk, 22, and the second walk.
 use Rattle.std.proofs.Common.{◌≡◌, ◌-◌, arith, subst, length, take, drop}
+use Rattle.std.proofs.lemmas.Result.{err_from_is_err_and}
 use Rattle.definition.specs.Options.{Table, options}
 use Rattle.definition.specs.Trays.{records_of}
 use Rattle.front.specs.Leading.{Leads}
 use Rattle.tray.specs.Walks.{tray_from}
 use Rattle.tray.proofs.Led.{led}
-use Rattle.tray.proofs.Records.{sizes}
 use Rattle.tray.proofs.Calls.{refused_call, short_call, filled_call}
 use Rattle.tray.proofs.pack_tray.Goals as goal
 use Rattle.tray.proofs.pack_tray.Goals.{After-settings-front}
@@ -19,17 +19,16 @@ are : (s : After-settings-front) → let f = s.args.format.now in
     tray_from s.settings-front.result.state (take (length f - s.settings-front.result.at) (drop s.settings-front.result.at f)) s.args.run.now ≡ records_of f s.args.run.now
 are s = led (leads s) s.args.run.now
 
-pub settings-front-requires : goal.settings-front-requires
-settings-front-requires c = sizes c.table-options.ensures
-
-pub returns-in_default : goal.returns-in_default
-returns-in_default c =
-    refused_call _ _ _ (are (goal.at.returns-in_default c).After-settings-front) c.check_tray-tray.ensures.bytes c.in_default.is c.check_tray-tray.ensures.tray
+pub returns-in_err-n : goal.returns-in_err-n
+returns-in_err-n c =
+    let p = err_from_is_err_and c.from_residual.result c.from_residual.ensures.1 in
+    rw (p.1, p.2) (refused_call _ _ _ (are (goal.at.returns-in_err-n c).After-settings-front) c.check_tray.ensures.bytes c.in_err-n.was c.check_tray.ensures.tray)
 
 pub returns-then-out-n : goal.returns-then-out-n
 returns-then-out-n c =
-    short_call _ _ _ (are (goal.at.returns-then-out-n c).After-settings-front) c.check_tray-tray.ensures.bytes c.in-Length.is c.check_tray-tray.ensures.tray (omega arith) c.if-out-n.true
+    rw c.from.ensures
+    (short_call _ _ _ (are (goal.at.returns-then-out-n c).After-settings-front) c.check_tray.ensures.bytes c.in_ok-n.was c.check_tray.ensures.tray (omega arith) c.if-out-n.true)
 
 pub returns : goal.returns
 returns c =
-    filled_call _ _ _ (are (goal.at.returns c).After-settings-front) c.check_tray-tray.ensures.bytes c.in-Length.is c.check_tray-tray.ensures.tray (omega arith) c.if-out-n.false c.put_tray.ensures
+    filled_call _ _ _ (are (goal.at.returns c).After-settings-front) c.check_tray.ensures.bytes c.in_ok-n.was c.check_tray.ensures.tray (omega arith) c.if-out-n.false c.put_tray.ensures

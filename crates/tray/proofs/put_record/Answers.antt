@@ -1,19 +1,16 @@
--- The pass that puts is accepted, so its other answer cannot come.
+-- The pass that puts is accepted, so its answer has the record.
 use Rattle.std.proofs.Common.{◌≡◌, sym, ap, ◌∙◌, subst}
 use Rattle.definition.specs.Writing.{write}
 use Rattle.definition.specs.Calls.{pack}
 use Rattle.options.specs.Packed.{table_at}
 use Rattle.write_pass.specs.Walks.{values_of, summed, FitsAt, put_at}
-use Rattle.tray.proofs.Records.{sizes, alone, length_told, put_front, well_formed, not_refused, fits_at}
+use Rattle.tray.proofs.Records.{alone, length_told, put_front, well_formed, is_ok, fits_at}
 use Rattle.tray.proofs.put_record.Goals as goal
 use Rattle.tray.proofs.put_record.Goals.{Start}
 
 -- what is written is the record
-is : (s : Start) → write (table_at s.args.table.now) s.args.state (values_of s.args.list.now) s.args.format.now ≡ pack s.args.state s.args.format.now s.args.list.now
+is : (s : Start) → write (table_at s.args.table.now.entries) s.args.state (values_of s.args.list.now) s.args.format.now ≡ pack s.args.state s.args.format.now s.args.list.now
 is s = alone _ _ _ s.requires.table s.requires.sound (well_formed s.requires.room s.requires.sound)
-
-pub pass-requires-clause-sizes : goal.pass-requires-clause-sizes
-pass-requires-clause-sizes c = sizes c.requires.table
 
 pub pass-requires-clause-list_sound : goal.pass-requires-clause-list_sound
 pass-requires-clause-list_sound c = well_formed c.requires.room c.requires.sound
@@ -21,10 +18,10 @@ pass-requires-clause-list_sound c = well_formed c.requires.room c.requires.sound
 pub pass-requires-clause-room : goal.pass-requires-clause-room
 pass-requires-clause-room c = λ e. subst (FitsAt _ 0) (sym (is (goal.at.pass-requires-clause-room c).Start)) (fits_at c.requires.room)
 
-pub returns-in-Refused : goal.returns-in-Refused
-returns-in-Refused c = absurd (not_refused c.requires.room (c.in-Refused.ensures.total ∙ ap summed (is (goal.at.returns-in-Refused c).Start)))
+pub unwrap-record-requires : goal.unwrap-record-requires
+unwrap-record-requires c = is_ok c.requires.room _ (c.pass.ensures.total ∙ ap summed (is (goal.at.unwrap-record-requires c).Start))
 
-pub returns-in-Of : goal.returns-in-Of
-returns-in-Of c =
-    let a = c.in-Of.ensures.total ∙ ap summed (is (goal.at.returns-in-Of c).Start) in
-    record { length = sym (length_told _ _ _ a); bytes = c.pass.ensures.bytes ∙ ap (put_at _ 0) (is (goal.at.returns-in-Of c).Start) ∙ put_front _ _ _ a _ }
+pub returns : goal.returns
+returns c =
+    let a = (rw c.unwrap-record.ensures at c.pass.ensures.total) ∙ ap summed (is (goal.at.returns c).Start) in
+    record { length = sym (length_told _ _ _ a); bytes = c.pass.ensures.bytes ∙ ap (put_at _ 0) (is (goal.at.returns c).Start) ∙ put_front _ _ _ a _ }
