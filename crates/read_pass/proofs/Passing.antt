@@ -1,13 +1,15 @@
 -- A pass: the values that were read so far, the length of their list, and the list at the front of the buffer.
 use Prim.Native.Nat.{ℕ, ◌+◌, ◌^◌, ◌≤◌, ◌<◌}
 use native.Mathlib.Omega.{arith}
-use mathlib.Core.Path.{◌≡◌, refl, sym, ap, ◌∙◌, subst}
+use mathlib.Core.Path.{◌≡◌, refl, sym, ap, ◌∙◌}
 use mathlib.Core.Bool.{Bool, true, false, cond}
 use mathlib.Core.List.{List, [], ◌∷◌, ◌++◌}
 use mathlib.Core.Option.{none, some}
 use lib.ListN.{length, drop, length-append, length-drop}
 use lib.Seq.{paste}
+use Rattle.std.specs.Prelude.{Ok, Err}
 use Rattle.definition.specs.Answers.{Checked, refused, accepted}
+use Rattle.definition.specs.Refusals.{refusal_number}
 use Rattle.definition.specs.Options.{Table}
 use Rattle.definition.specs.Ops.{ops}
 use Rattle.definition.specs.Values.{Value}
@@ -18,12 +20,13 @@ use Rattle.laws.proofs.Traces.{read_value, reading_values}
 use Rattle.definition.specs.declared.State.{State}
 use Rattle.definition.specs.declared.Offset.{Offset}
 use Rattle.definition.specs.declared.Op.{Op}
+use Rattle.definition.specs.declared.Refusal.{Refusal}
 use Rattle.laws.proofs.Answers.{never, after_accepted}
 use Rattle.laws.proofs.Lists.{list_append}
 use Rattle.format.specs.Steps.{next_at}
 use Rattle.store.proofs.Pasting.{paste_front}
 use Rattle.decode.specs.Readings.{value_of, Inside}
-use Rattle.fetch.specs.Fetching.{Stands, place_in, FetchedStands, Fetches}
+use Rattle.fetch.specs.Fetching.{Stands, place_in, Fetches}
 use Rattle.decode.specs.declared.Reading.{Reading}
 use Rattle.fetch.specs.declared.Fetched.{Fetched}
 use Rattle.align.specs.Amounts.{SameTo63}
@@ -105,14 +108,14 @@ module _ {t : Table} {f d : List ℕ} {s₀ : State} {b : List ℕ} {put : Bool}
   pub passing_refusal : {k : ℕ} → next_at t at (drop at f) ≡ refused k → (read_at t f d s₀ ≡ refused k) × (l ≡ answer)
   passing_refusal q = refused_list (run_refusal h.so_far q)
 
-  module _ {o : Op} {p : ℕ} (q : next_at t at (drop at f) ≡ accepted (some (o, p))) {r : Fetched} (g : Fetches d s o r) where
-    pub passing_refused : {k : ℕ} → r ≡ Fetched.Refused k → (read_at t f d s₀ ≡ refused k) × (l ≡ answer)
-    passing_refused e = refused_list (item_refused h.so_far q g e)
+  module _ {o : Op} {p : ℕ} (q : next_at t at (drop at f) ≡ accepted (some (o, p))) where
+    pub passing_refused : {e : Refusal} → Fetches d s o (Err e) → (read_at t f d s₀ ≡ refused (refusal_number e)) × (l ≡ answer)
+    passing_refused g = refused_list (item_refused h.so_far q g)
 
-    pub passing_set : {x u : State} → r ≡ Fetched.Set x → u ≡ x → Passing t f d s₀ b put p u l total
-    passing_set e i = rw i (record { fits = h.fits; done = h.done; so_far = item_set h.so_far q g e; counted = h.counted; holds = h.holds })
+    pub passing_set : {x u : State} → Fetches d s o (Ok (Fetched.Set x)) → u ≡ x → Passing t f d s₀ b put p u l total
+    passing_set g i = rw i (record { fits = h.fits; done = h.done; so_far = item_set h.so_far q g; counted = h.counted; holds = h.holds })
 
-    module _ {v : Reading} {o' : Offset} (e : r ≡ Fetched.Read v o') where
+    module _ {v : Reading} {o' : Offset} (g : Fetches d s o (Ok (Fetched.Read v o'))) where
       abbrev one : List ℕ
       one = list_of (value_of d v ∷ [])
 
@@ -120,10 +123,10 @@ module _ {t : Table} {f d : List ℕ} {s₀ : State} {b : List ℕ} {put : Bool}
       more = h.done ++ (value_of d v ∷ [])
 
       inside : Inside d v
-      inside = (subst (FetchedStands d) e g.stands).1
+      inside = g.stands.1
 
       next : SoFar t f d (read_at t f d s₀) p (at_offset s o') more
-      next = item_read h.so_far q g e
+      next = item_read h.so_far q g
 
       module _ (i : put ≡ true) (below : length b < 2 ^ 63) where
         exact : total ≡ length sofar

@@ -1,10 +1,12 @@
 -- A pass over a format: what was read so far, and what is read from here on, by the walk over items.
 use Prim.Native.Nat.{ℕ}
-use mathlib.Core.Path.{◌≡◌, refl, sym, ap, ◌∙◌, subst}
+use mathlib.Core.Path.{◌≡◌, refl, sym, subst}
 use mathlib.Core.List.{List, [], ◌∷◌, ◌++◌, append_assoc, append-nil}
 use mathlib.Core.Option.{none, some}
 use lib.ListN.{drop}
+use Rattle.std.specs.Prelude.{Ok, Err}
 use Rattle.definition.specs.Answers.{Checked, refused, accepted}
+use Rattle.definition.specs.Refusals.{refusal_number}
 use Rattle.definition.specs.Options.{Table}
 use Rattle.definition.specs.Values.{Value}
 use Rattle.definition.specs.Writing.{Place}
@@ -12,11 +14,12 @@ use Rattle.definition.specs.Reading.{at_offset}
 use Rattle.definition.specs.declared.State.{State}
 use Rattle.definition.specs.declared.Offset.{Offset}
 use Rattle.definition.specs.declared.Op.{Op}
+use Rattle.definition.specs.declared.Refusal.{Refusal}
 use Rattle.laws.proofs.Traces.{read_value}
 use Rattle.format.specs.Steps.{next_at}
 use Rattle.format.proofs.Walking as Walk
 use Rattle.decode.specs.Readings.{value_of}
-use Rattle.fetch.specs.Fetching.{Stands, place_in, fetched_of, FetchedStands, Fetches}
+use Rattle.fetch.specs.Fetching.{Stands, place_in, Fetches}
 use Rattle.decode.specs.declared.Reading.{Reading}
 use Rattle.fetch.specs.declared.Fetched.{Fetched}
 use Rattle.read_pass.specs.Runs.{read_at}
@@ -36,20 +39,16 @@ module _ {t : Table} {f d : List ℕ} {w : Checked (Place ℕ × List Value)} {a
   pub run_refusal : {k : ℕ} → next_at t at (drop at f) ≡ refused k → w ≡ refused k
   run_refusal q = Walk.walk_refusal read_value [] ◌++◌ (λ vs. refl) append-nil append_assoc h.walk q
 
-  -- the item at the place does o, the next one stands at p, and r is what the item reads
-  module _ {o : Op} {p : ℕ} (q : next_at t at (drop at f) ≡ accepted (some (o, p))) {r : Fetched} (g : Fetches d s o r) where
-    -- by what r is
-    told : {x : Fetched} → r ≡ x → read_value (place_in d s) o ≡ fetched_of d s x
-    told e = sym g.says ∙ ap (fetched_of d s) e
-
-    pub item_refused : {k : ℕ} → r ≡ Fetched.Refused k → w ≡ refused k
-    item_refused e = Walk.walk_refused read_value [] ◌++◌ (λ vs. refl) append-nil append_assoc h.walk q (told e)
+  -- the item at the place does o, and the next one stands at p
+  module _ {o : Op} {p : ℕ} (q : next_at t at (drop at f) ≡ accepted (some (o, p))) where
+    pub item_refused : {e : Refusal} → Fetches d s o (Err e) → w ≡ refused (refusal_number e)
+    item_refused g = Walk.walk_refused read_value [] ◌++◌ (λ vs. refl) append-nil append_assoc h.walk q (sym g.says)
 
     on : {x : State} {a : List Value} → Stands d x → read_value (place_in d s) o ≡ accepted (place_in d x, a) → SoFar t f d w p x (vs ++ a)
     on i e = record { walk = Walk.walk_on read_value [] ◌++◌ (λ vs. refl) append-nil append_assoc h.walk q e; stands = i }
 
-    pub item_set : {x : State} → r ≡ Fetched.Set x → SoFar t f d w p x vs
-    item_set {x} e = subst (SoFar t f d w p x) (append-nil vs) (on (subst (FetchedStands d) e g.stands) (told e))
+    pub item_set : {x : State} → Fetches d s o (Ok (Fetched.Set x)) → SoFar t f d w p x vs
+    item_set {x} g = subst (SoFar t f d w p x) (append-nil vs) (on g.stands (sym g.says))
 
-    pub item_read : {v : Reading} {x : Offset} → r ≡ Fetched.Read v x → SoFar t f d w p (at_offset s x) (vs ++ (value_of d v ∷ []))
-    item_read e = on ((subst (FetchedStands d) e g.stands).0, h.stands.1) (told e)
+    pub item_read : {v : Reading} {x : Offset} → Fetches d s o (Ok (Fetched.Read v x)) → SoFar t f d w p (at_offset s x) (vs ++ (value_of d v ∷ []))
+    item_read g = on (g.stands.0, h.stands.1) (sym g.says)

@@ -1,68 +1,116 @@
--- What the cursor's answer and the item's say of the pass.
-use Prim.Native.Nat.{◌<◌, ◌≤◌}
-use native.Mathlib.Omega.{arith}
-use mathlib.Core.Path.{◌≡◌, sym, ◌∙◌}
-use mathlib.Core.Option.{some}
-use lib.ListN.{length, drop}
-use Rattle.definition.specs.Answers.{accepted}
-use Rattle.format.specs.Steps.{next_at}
+use Rattle.std.proofs.Common.{rules, ◌≡◌, true, cond, [], ◌∷◌, ◌+◌, ◌≤◌, length, ℕ, ◌-◌, ◌*◌, ◌<◌, ◌/◌, ◌%◌, Bool, false, nat_eq, nat_lt, List, ◌++◌, slice_index_or, slice_set, bit_and, bit_or, w8, w32, w64, Bor, MutBor}
+use Rattle.std.proofs.Math.Seq.{paste}
+use Rattle.definition.specs.Lists.{list_of}
+use Rattle.decode.specs.Readings.{value_of, Inside}
+use Rattle.fetch.specs.Fetching.{Stands}
 use Rattle.options.specs.Packed.{table_at}
-use Rattle.format.proofs.Walking.{valid, ahead}
-use Rattle.read_pass.proofs.Passing.{passing_none, passing_end, passing_refusal, passing_refused, passing_set, passing_room, passing_put, passing_kept, passing_more}
+use Rattle.read_pass.specs.Runs.{size_of, Short, Checks, Fits, list_after}
 use Rattle.read_pass.proofs.pass.Goals as goal
-use Rattle.read_pass.proofs.pass.Goals.{After-op, then-put, else-put}
 
--- the item that the cursor read
-item : (c : After-op) → next_at (table_at c.args.table.now) c.loop-k.c.at (drop c.loop-k.c.at c.args.format.now) ≡ accepted (some (c.op.result, c.in-Item.d.at))
-item c = sym (rw (c.in-Item.is, ← c.op.ensures) at c.next.ensures)
+-- src/lib.rt:70:9
+pub new-c-requires : goal.new-c-requires
+new-c-requires c = ?
 
--- the next item stands further on
-onward : (c : After-op) → (c.loop-k.c.at < c.in-Item.d.at) × (c.in-Item.d.at ≤ length c.args.format.now)
-onward c = ahead (table_at c.args.table.now) c.args.format.now c.loop-k.c.at (item c)
+-- src/lib.rt:73:5
+pub loop-item-init : goal.loop-item-init
+loop-item-init c = ?
 
-pub loop-k-init : goal.loop-k-init
-loop-k-init c = passing_none _ c.requires.room c.new-c.ensures c.requires.stands
+-- src/lib.rt:73:36
+pub next-requires : goal.next-requires
+next-requires c = ?
 
-pub returns-in-End : goal.returns-in-End
-returns-in-End c =
-    let r = passing_end c.loop-k.invariant c.offset_in.ensures (sym (rw c.in-End.is at c.next.ensures)) in record { total = r.0; list = r.1 }
+-- src/lib.rt:73:36
+pub branch-item-requires : goal.branch-item-requires
+branch-item-requires c κs = ?
 
-pub returns-in-Refused : goal.returns-in-Refused
-returns-in-Refused c =
-    let r = passing_refusal c.loop-k.invariant (sym (rw c.in-Refused.is at c.next.ensures)) in record { total = r.0; list = r.1 }
+-- src/lib.rt:73:36
+pub from_residual-requires : goal.from_residual-requires
+from_residual-requires c κs = ?
 
+-- src/lib.rt:73:36
+pub returns-in_err-item-clause-total : goal.returns-in_err-item-clause-total
+returns-in_err-item-clause-total c = ?
+
+-- src/lib.rt:73:36
+pub returns-in_err-item-clause-list : goal.returns-in_err-item-clause-list
+returns-in_err-item-clause-list c = ?
+
+-- src/lib.rt:74:32
+pub op-requires : goal.op-requires
+op-requires c = ?
+
+-- src/lib.rt:74:15
+pub read_op-requires-clause-stands : goal.read_op-requires-clause-stands
+read_op-requires-clause-stands c = ?
+
+-- src/lib.rt:74:15
 pub read_op-requires-clause-valid_op : goal.read_op-requires-clause-valid_op
-read_op-requires-clause-valid_op c =
-    valid (table_at c.args.table.now) c.args.format.now c.loop-k.c.at (item (goal.at.read_op-requires-clause-valid_op c).After-op) c.requires.sizes
+read_op-requires-clause-valid_op c = ?
 
-pub returns-in-Refused-read_op : goal.returns-in-Refused-read_op
-returns-in-Refused-read_op c =
-    let r = passing_refused c.loop-k.invariant (item (goal.at.returns-in-Refused-read_op c).After-op) c.read_op.ensures c.in-Refused-read_op.is in record { total = r.0; list = r.1 }
+-- src/lib.rt:74:15
+pub branch-t-requires : goal.branch-t-requires
+branch-t-requires c κs = ?
 
-pub loop-k-smaller-in-Set : goal.loop-k-smaller-in-Set
-loop-k-smaller-in-Set c = omega (arith, onward (goal.at.loop-k-smaller-in-Set c).After-op)
+-- src/lib.rt:74:15
+pub from_residual-requires-in_err-t : goal.from_residual-requires-in_err-t
+from_residual-requires-in_err-t c κs = ?
 
-pub loop-k-preserved-in-Set : goal.loop-k-preserved-in-Set
-loop-k-preserved-in-Set c =
-    passing_set c.loop-k.invariant (item (goal.at.loop-k-preserved-in-Set c).After-op) c.read_op.ensures c.in-Set.is c.parts-s.ensures
+-- src/lib.rt:74:15
+pub returns-in_err-t-clause-total : goal.returns-in_err-t-clause-total
+returns-in_err-t-clause-total c = ?
 
+-- src/lib.rt:74:15
+pub returns-in_err-t-clause-list : goal.returns-in_err-t-clause-list
+returns-in_err-t-clause-list c = ?
+
+-- src/lib.rt:76:17
+pub parts-s-requires : goal.parts-s-requires
+parts-s-requires c = ?
+
+-- src/lib.rt:73:5
+pub loop-item-smaller-in-Set : goal.loop-item-smaller-in-Set
+loop-item-smaller-in-Set c = ?
+
+-- src/lib.rt:73:5
+pub loop-item-preserved-in-Set : goal.loop-item-preserved-in-Set
+loop-item-preserved-in-Set c = ?
+
+-- src/lib.rt:81:21
 pub put_reading-requires-clause-room : goal.put_reading-requires-clause-room
-put_reading-requires-clause-room c =
-    (passing_room c.loop-k.invariant (item (goal.at.put_reading-requires-clause-room c).After-op) c.read_op.ensures c.in-Read.is c.if-put.true (omega arith)).0
+put_reading-requires-clause-room c = ?
 
-pub loop-k-smaller : goal.loop-k-smaller
-loop-k-smaller c = omega (arith, onward (goal.at.loop-k-smaller c).After-op)
+-- src/lib.rt:81:21
+pub put_reading-requires-clause-inside : goal.put_reading-requires-clause-inside
+put_reading-requires-clause-inside c = ?
 
-pub loop-k-preserved : goal.loop-k-preserved
-loop-k-preserved c =
-    let o = item (goal.at.loop-k-preserved c).After-op in
-    let g = c.read_op.ensures in
-    let h = c.loop-k.invariant in
-    passing_more h o g c.in-Read.is
-    (elim c.if-put.branch [
-      | then-put w ↦ passing_put h o g c.in-Read.is w.if-put.true (omega arith) _ (w.list-is ∙ w.put_reading.ensures)
-      | else-put w ↦ w.list-is ∙ passing_kept h o g c.in-Read.is w.if-put.false
-    ])
-    c.size_of.ensures.0
-    c.sum-total.ensures
-    c.at_offset-s.ensures
+-- src/lib.rt:83:36
+pub size_of-requires : goal.size_of-requires
+size_of-requires c = ?
+
+-- src/lib.rt:83:17
+pub sum-total-requires : goal.sum-total-requires
+sum-total-requires c = ?
+
+-- src/lib.rt:84:17
+pub at_offset-s-requires : goal.at_offset-s-requires
+at_offset-s-requires c = ?
+
+-- src/lib.rt:73:5
+pub loop-item-smaller : goal.loop-item-smaller
+loop-item-smaller c = ?
+
+-- src/lib.rt:73:5
+pub loop-item-preserved : goal.loop-item-preserved
+loop-item-preserved c = ?
+
+-- src/lib.rt:91:15
+pub offset_in-requires : goal.offset_in-requires
+offset_in-requires c = ?
+
+-- src/lib.rt:57:1
+pub returns-clause-total : goal.returns-clause-total
+returns-clause-total c = ?
+
+-- src/lib.rt:57:1
+pub returns-clause-list : goal.returns-clause-list
+returns-clause-list c = ?

@@ -6,8 +6,8 @@ use Rattle.options.specs.Packed.{table_at}
 use Rattle.read_pass.proofs.Passing.{Passing}
 use Rattle.read_pass.proofs.pass.Given as goal
 
-abbrev pub invariant-loop-k : goal.invariant-loop-k
-invariant-loop-k l = Passing (table_at l.table) l.format l.data l.initial.s l.initial.list l.put l.c.at l.s l.list l.total
+abbrev pub invariant-loop-item : goal.invariant-loop-item
+invariant-loop-item l = Passing (table_at l.table.entries) l.format l.data l.initial.s l.initial.list l.put l.c.at l.s l.list l.total
 
-abbrev pub decreases-loop-k : goal.decreases-loop-k
-decreases-loop-k l = length l.format - l.c.at
+abbrev pub decreases-loop-item : goal.decreases-loop-item
+decreases-loop-item l = length l.format - l.c.at
