@@ -8,8 +8,8 @@ use Rattle.options.specs.Packed.{table_at}
 use Rattle.measure.proofs.Runs.{Ran}
 use Rattle.bound.proofs.bound_by.Given as goal
 
-abbrev pub invariant-loop-k : goal.invariant-loop-k
-invariant-loop-k l = Ran (bound_op l.data_length) (table_at l.table) (bounding l.data_length start (ops (table_at l.table) l.format)) l.format l.c.at l.s
+abbrev pub invariant-loop-item : goal.invariant-loop-item
+invariant-loop-item l = Ran (bound_op l.data_length) (table_at l.table.entries) (bounding l.data_length start (ops (table_at l.table.entries) l.format)) l.format l.c.at l.s
 
-abbrev pub decreases-loop-k : goal.decreases-loop-k
-decreases-loop-k l = length l.format - l.c.at
+abbrev pub decreases-loop-item : goal.decreases-loop-item
+decreases-loop-item l = length l.format - l.c.at
