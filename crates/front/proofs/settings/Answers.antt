@@ -11,8 +11,9 @@ use Rattle.front.proofs.settings.Goals as goal
 use Rattle.front.proofs.settings.Goals.{After-op}
 
 -- the item that the cursor read does x
-item : (c : After-op) {x : Op} → c.op.result ≡ x → next_at (table_at c.args.table.now) c.loop-item.c.at (drop c.loop-item.c.at c.args.format.now) ≡ accepted (some (x, c.in-Item.d.at))
-item c e = sym c.in-Item.ensures ∙ ap (λ (x : Op). accepted (some (x, c.in-Item.d.at))) (sym c.op.ensures ∙ e)
+item : (c : After-op) {x : Op} → c.op.result ≡ x → next_at (table_at c.args.table.now.entries) c.loop-item.c.at (drop c.loop-item.c.at c.args.format.now) ≡ accepted (some (x, c.in-Ok-Some.next.at))
+item c e =
+    sym (rw c.in-Ok-Some.field-0-is at c.in-Ok-Some.ensures) ∙ ap (λ (x : Op). accepted (some (x, c.in-Ok-Some.next.at))) (sym c.op.ensures ∙ e)
 
 pub loop-item-smaller-in-Blank : goal.loop-item-smaller-in-Blank
 loop-item-smaller-in-Blank c = omega (arith, ahead _ _ _ (item (goal.at.loop-item-smaller-in-Blank c).After-op refl))
@@ -24,4 +25,4 @@ pub loop-item-smaller : goal.loop-item-smaller
 loop-item-smaller c = omega (arith, ahead _ _ _ (item (goal.at.loop-item-smaller c).After-op refl))
 
 pub loop-item-preserved : goal.loop-item-preserved
-loop-item-preserved c = leads_set c.loop-item.invariant (item (goal.at.loop-item-preserved c).After-op c.in-Set.is) c.requires c.set-s.ensures
+loop-item-preserved c = leads_set c.loop-item.invariant (item (goal.at.loop-item-preserved c).After-op c.in-Set.is) c.args.table.now.sizes c.set-s.ensures

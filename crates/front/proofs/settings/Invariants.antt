@@ -6,7 +6,7 @@ use Rattle.front.specs.Leading.{Leads}
 use Rattle.front.proofs.settings.Given as goal
 
 abbrev pub invariant-loop-item : goal.invariant-loop-item
-invariant-loop-item l = Leads (table_at l.table) l.format l.c.at l.s
+invariant-loop-item l = Leads (table_at l.table.entries) l.format l.c.at l.s
 
 abbrev pub decreases-loop-item : goal.decreases-loop-item
 decreases-loop-item l = length l.format - l.c.at
