@@ -1,11 +1,10 @@
 -- Laws of reading: the loop that gathers the low bytes, the loop that passes the bytes above eight, and the answers.
-use Rattle.std.proofs.Common.{◌≡◌, ℕ, ◌+◌, ◌*◌, ◌%◌, ◌^◌, ◌<◌, ◌≤◌, Bool, true, false, ◌&&◌, eqb, List, [], ◌∷◌, length, get_or, take, drop, length-drop, get_or-drop, zero, suc, ◌-◌, ℤ, sym, refl, ap, ◌∙◌, lt_of_lt_of_le, add-one, arith, lit<, drop_of_length-le, drop-cons, eq-eqb, ne_eqb}
+use Rattle.std.proofs.Common.{◌≡◌, ℕ, ◌+◌, ◌*◌, ◌%◌, ◌^◌, ◌<◌, ◌≤◌, Bool, true, false, eqb, List, [], ◌∷◌, length, get_or, take, drop, length-drop, get_or-drop, zero, suc, ◌-◌, ℤ, sym, refl, ap, ◌∙◌, lt_of_lt_of_le, add-one, arith, lit<, eq-eqb, ne_eqb}
 use Rattle.std.specs.Prelude.{MatchBool}
 use Rattle.std.specs.List.{AllWithin, HoldsAt, range_with_len}
 use Rattle.std.proofs.lemmas.List.FromFn.{length-range_with_len, get_or-range_with_len}
 use borrow.Table.Steps.{cases}
 use native.Mathlib.Nat.{pow-le-pow_right}
-use native.Mathlib.Decide.{dec_lt}
 use Rattle.definition.specs.Answers.{refused, accepted, require, ◌>>◌}
 use Rattle.definition.specs.Bytes.{total, sign, signed, low}
 use Rattle.definition.specs.Values.{integer}

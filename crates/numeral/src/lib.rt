@@ -115,8 +115,5 @@ pub fn peek(text: &[u8], at: usize) -> Short
     let mut i = at;
     let mut n = 0;
     let _ = read_digits(&text, &mut i, &mut n, 1);
-    if n == 0 {
-        return Short::Long;
-    }
-    Short::Digit(n)
+    if n == 0 { Short::Long } else { Short::Digit(n) }
 }

@@ -41,6 +41,6 @@ pub returns-then-n-eq0 : goal.returns-then-n-eq0
 returns-then-n-eq0 c =
     rw c.if-n-eq0.true at (alone (goal.at.returns-then-n-eq0 c).After-read_digits)
 
-pub returns : goal.returns
-returns c =
-    rw (ne_eqb _ _ c.if-n-eq0.false) at (alone (goal.at.returns c).After-read_digits)
+pub returns-else-n-eq0 : goal.returns-else-n-eq0
+returns-else-n-eq0 c =
+    rw (ne_eqb _ _ c.if-n-eq0.false) at (alone (goal.at.returns-else-n-eq0 c).After-read_digits)
