@@ -41,7 +41,7 @@ module _ (t : Table) (is : t ≡ options) (f d : List ℕ) (p : ℤ) (b : List �
   no_21 : leb (length d) (2 ^ 63 - 1) ≡ true
   no_21 = le-leb (length d) (2 ^ 63 - 1) (omega arith)
 
-  pub call_outside : refused 16 ≡ offset_of p (length d) → call (refused 16) b ≡ string_unpack f d p b
+  pub call_outside : {k : ℕ} → refused k ≡ offset_of p (length d) → call (refused k) b ≡ string_unpack f d p b
   unfolding string_unpack unpack read
   call_outside e = rw (no_21, ← e)
 

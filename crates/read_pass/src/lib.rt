@@ -71,18 +71,15 @@ pub fn pass(
     let mut s = start;
     let mut total: u64 = 0;
     while let Some((item, next)) = c.next(table, format)? {
+        c = next;
         match read_op(data, s, item.op())? {
-            Fetched::Set(t) => {
-                s = parts(t);
-                c = next;
-            }
+            Fetched::Set(t) => s = parts(t),
             Fetched::Read(r, end) => {
                 if put {
                     put_reading(list, total as usize, data, r);
                 }
                 total = sum(total, size_of(r));
                 s = at_offset(s, end);
-                c = next;
             }
         }
     }

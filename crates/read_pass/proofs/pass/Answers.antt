@@ -1,116 +1,73 @@
-use Rattle.std.proofs.Common.{rules, ◌≡◌, true, cond, [], ◌∷◌, ◌+◌, ◌≤◌, length, ℕ, ◌-◌, ◌*◌, ◌<◌, ◌/◌, ◌%◌, Bool, false, nat_eq, nat_lt, List, ◌++◌, slice_index_or, slice_set, bit_and, bit_or, w8, w32, w64, Bor, MutBor}
-use Rattle.std.proofs.Math.Seq.{paste}
-use Rattle.definition.specs.Lists.{list_of}
-use Rattle.decode.specs.Readings.{value_of, Inside}
-use Rattle.fetch.specs.Fetching.{Stands}
+-- What the cursor's answer and the item's say of the pass.
+use Prim.Native.Nat.{◌<◌, ◌≤◌}
+use native.Mathlib.Omega.{arith}
+use mathlib.Core.Path.{◌≡◌, sym, ◌∙◌}
+use mathlib.Core.Option.{some}
+use lib.ListN.{length, drop}
+use Rattle.std.proofs.lemmas.Result.{err_from_is_err_and}
+use Rattle.definition.specs.Answers.{accepted}
+use Rattle.format.specs.Steps.{next_at}
 use Rattle.options.specs.Packed.{table_at}
-use Rattle.read_pass.specs.Runs.{size_of, Short, Checks, Fits, list_after}
+use Rattle.format.proofs.Walking.{valid, ahead}
+use Rattle.read_pass.proofs.Passing.{passing_none, passing_end, passing_refusal, passing_refused, passing_set, passing_room, passing_put, passing_kept, passing_more}
 use Rattle.read_pass.proofs.pass.Goals as goal
+use Rattle.read_pass.proofs.pass.Goals.{After-op, then-put, else-put}
 
--- src/lib.rt:70:9
-pub new-c-requires : goal.new-c-requires
-new-c-requires c = ?
+-- the item that the cursor read
+item : (c : After-op) → next_at (table_at c.args.table.now.entries) c.loop-item.c.at (drop c.loop-item.c.at c.args.format.now) ≡ accepted (some (c.op.result, c.in-Some.next.at))
+item c = sym (rw (c.in-Some.is, ← c.op.ensures) at c.in_ok-item.ensures)
 
--- src/lib.rt:73:5
+-- the next item stands further on
+onward : (c : After-op) → (c.loop-item.c.at < c.in-Some.next.at) × (c.in-Some.next.at ≤ length c.args.format.now)
+onward c = ahead (table_at c.args.table.now.entries) c.args.format.now c.loop-item.c.at (item c)
+
 pub loop-item-init : goal.loop-item-init
-loop-item-init c = ?
+loop-item-init c = passing_none _ c.requires.room c.new-c.ensures c.requires.stands
 
--- src/lib.rt:73:36
-pub next-requires : goal.next-requires
-next-requires c = ?
+pub returns-in_err-item : goal.returns-in_err-item
+returns-in_err-item c =
+    let p = err_from_is_err_and c.from_residual.result c.from_residual.ensures.1 in
+    let r = passing_refusal c.loop-item.invariant (sym c.in_err-item.ensures) in
+    record { total = rw (p.1, p.2) r.0; list = r.1 }
 
--- src/lib.rt:73:36
-pub branch-item-requires : goal.branch-item-requires
-branch-item-requires c κs = ?
-
--- src/lib.rt:73:36
-pub from_residual-requires : goal.from_residual-requires
-from_residual-requires c κs = ?
-
--- src/lib.rt:73:36
-pub returns-in_err-item-clause-total : goal.returns-in_err-item-clause-total
-returns-in_err-item-clause-total c = ?
-
--- src/lib.rt:73:36
-pub returns-in_err-item-clause-list : goal.returns-in_err-item-clause-list
-returns-in_err-item-clause-list c = ?
-
--- src/lib.rt:74:32
-pub op-requires : goal.op-requires
-op-requires c = ?
-
--- src/lib.rt:74:15
-pub read_op-requires-clause-stands : goal.read_op-requires-clause-stands
-read_op-requires-clause-stands c = ?
-
--- src/lib.rt:74:15
 pub read_op-requires-clause-valid_op : goal.read_op-requires-clause-valid_op
-read_op-requires-clause-valid_op c = ?
+read_op-requires-clause-valid_op c =
+    valid (table_at c.args.table.now.entries) c.args.format.now c.loop-item.c.at (item (goal.at.read_op-requires-clause-valid_op c).After-op) c.args.table.now.sizes
 
--- src/lib.rt:74:15
-pub branch-t-requires : goal.branch-t-requires
-branch-t-requires c κs = ?
+pub returns-in_err-t : goal.returns-in_err-t
+returns-in_err-t c =
+    let p = err_from_is_err_and c.from_residual-in_err-t.result c.from_residual-in_err-t.ensures.1 in
+    let r = passing_refused c.loop-item.invariant (item (goal.at.returns-in_err-t c).After-op) c.in_err-t.ensures in
+    record { total = rw (p.1, p.2) r.0; list = r.1 }
 
--- src/lib.rt:74:15
-pub from_residual-requires-in_err-t : goal.from_residual-requires-in_err-t
-from_residual-requires-in_err-t c κs = ?
-
--- src/lib.rt:74:15
-pub returns-in_err-t-clause-total : goal.returns-in_err-t-clause-total
-returns-in_err-t-clause-total c = ?
-
--- src/lib.rt:74:15
-pub returns-in_err-t-clause-list : goal.returns-in_err-t-clause-list
-returns-in_err-t-clause-list c = ?
-
--- src/lib.rt:76:17
-pub parts-s-requires : goal.parts-s-requires
-parts-s-requires c = ?
-
--- src/lib.rt:73:5
 pub loop-item-smaller-in-Set : goal.loop-item-smaller-in-Set
-loop-item-smaller-in-Set c = ?
+loop-item-smaller-in-Set c = omega (arith, onward (goal.at.loop-item-smaller-in-Set c).After-op)
 
--- src/lib.rt:73:5
 pub loop-item-preserved-in-Set : goal.loop-item-preserved-in-Set
-loop-item-preserved-in-Set c = ?
+loop-item-preserved-in-Set c =
+    passing_set c.loop-item.invariant (item (goal.at.loop-item-preserved-in-Set c).After-op) (rw c.in-Set.is at c.in_ok-t.ensures) c.parts-s.ensures
 
--- src/lib.rt:81:21
 pub put_reading-requires-clause-room : goal.put_reading-requires-clause-room
-put_reading-requires-clause-room c = ?
+put_reading-requires-clause-room c =
+    (passing_room c.loop-item.invariant (item (goal.at.put_reading-requires-clause-room c).After-op) (rw c.in-Read.is at c.in_ok-t.ensures) c.if-put.true (omega arith)).0
 
--- src/lib.rt:81:21
-pub put_reading-requires-clause-inside : goal.put_reading-requires-clause-inside
-put_reading-requires-clause-inside c = ?
-
--- src/lib.rt:83:36
-pub size_of-requires : goal.size_of-requires
-size_of-requires c = ?
-
--- src/lib.rt:83:17
-pub sum-total-requires : goal.sum-total-requires
-sum-total-requires c = ?
-
--- src/lib.rt:84:17
-pub at_offset-s-requires : goal.at_offset-s-requires
-at_offset-s-requires c = ?
-
--- src/lib.rt:73:5
 pub loop-item-smaller : goal.loop-item-smaller
-loop-item-smaller c = ?
+loop-item-smaller c = omega (arith, onward (goal.at.loop-item-smaller c).After-op)
 
--- src/lib.rt:73:5
 pub loop-item-preserved : goal.loop-item-preserved
-loop-item-preserved c = ?
+loop-item-preserved c =
+    let o = item (goal.at.loop-item-preserved c).After-op in
+    let g = rw c.in-Read.is at c.in_ok-t.ensures in
+    let h = c.loop-item.invariant in
+    passing_more h o g
+    (elim c.if-put.branch [
+      | then-put w ↦ passing_put h o g w.if-put.true (omega arith) _ (w.list-is ∙ w.put_reading.ensures)
+      | else-put w ↦ w.list-is ∙ passing_kept h o g w.if-put.false
+    ])
+    c.size_of.ensures.0
+    c.sum-total.ensures
+    c.at_offset-s.ensures
 
--- src/lib.rt:91:15
-pub offset_in-requires : goal.offset_in-requires
-offset_in-requires c = ?
-
--- src/lib.rt:57:1
-pub returns-clause-total : goal.returns-clause-total
-returns-clause-total c = ?
-
--- src/lib.rt:57:1
-pub returns-clause-list : goal.returns-clause-list
-returns-clause-list c = ?
+pub returns : goal.returns
+returns c =
+    let r = passing_end c.loop-item.invariant c.offset_in.ensures (sym (rw c.in_default.is at c.in_ok-item.ensures)) in record { total = r.0; list = r.1 }
