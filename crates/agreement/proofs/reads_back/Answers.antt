@@ -5,10 +5,12 @@ use Rattle.agreement.proofs.Agreed.{within, refused_is, next_is}
 use Rattle.agreement.proofs.reads_back.Goals as goal
 
 pub overflow_add-result : goal.overflow_add-result
-overflow_add-result c = omega (arith, within _ _ _ _ _ _ c.in-Length.is c.string_pack.ensures)
+overflow_add-result c = omega (arith, within _ _ _ _ _ _ c.in-Ok.is c.string_pack.ensures)
 
-pub returns-in-Refused : goal.returns-in-Refused
-returns-in-Refused c = λ g. eq-eqb _ 22 (refused_is _ _ _ _ _ _ c.in-Length.is c.string_pack.ensures g (omega arith) _ _ _ c.string_unpack.ensures _ c.in-Refused.is)
+pub returns-in-Err : goal.returns-in-Err
+returns-in-Err c g =
+    rw (refused_is _ _ _ _ _ _ c.in-Ok.is c.string_pack.ensures g (omega arith) _ _ _ c.string_unpack.ensures _ c.in-Err.is) at c.eq.ensures
 
-pub returns-in-Unpacked : goal.returns-in-Unpacked
-returns-in-Unpacked c = λ g. eq-eqb _ _ (next_is _ _ _ _ _ _ c.in-Length.is c.string_pack.ensures g (omega arith) _ _ _ c.string_unpack.ensures _ c.in-Unpacked.is)
+pub returns-in-Ok-string_unpack : goal.returns-in-Ok-string_unpack
+returns-in-Ok-string_unpack c g =
+    eq-eqb _ _ (next_is _ _ _ _ _ _ c.in-Ok.is c.string_pack.ensures g (omega arith) _ _ _ c.string_unpack.ensures _ c.in-Ok-string_unpack.is)

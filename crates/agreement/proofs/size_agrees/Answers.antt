@@ -3,8 +3,10 @@ use borrow.Author.Tests.{eq-eqb}
 use Rattle.agreement.proofs.Agreed.{size_is, ten_is}
 use Rattle.agreement.proofs.size_agrees.Goals as goal
 
-pub returns-in-Refused : goal.returns-in-Refused
-returns-in-Refused c = eq-eqb _ 10 (ten_is _ _ _ _ _ _ c.in-Length.is c.string_pack.ensures _ _ c.in-Refused.is c.string_packsize.ensures)
+pub returns-in-Err : goal.returns-in-Err
+returns-in-Err c =
+    rw (ten_is _ _ _ _ _ _ c.in-Ok.is c.string_pack.ensures _ _ c.in-Err.is c.string_packsize.ensures) at c.eq.ensures
 
-pub returns-in-Size : goal.returns-in-Size
-returns-in-Size c = eq-eqb _ _ (size_is _ _ _ _ _ _ c.in-Length.is c.string_pack.ensures _ _ c.in-Size.is c.string_packsize.ensures)
+pub returns-in-Ok-string_packsize : goal.returns-in-Ok-string_packsize
+returns-in-Ok-string_packsize c =
+    eq-eqb _ _ (size_is _ _ _ _ _ _ c.in-Ok.is c.string_pack.ensures _ _ c.in-Ok-string_packsize.is c.string_packsize.ensures)
