@@ -1,7 +1,7 @@
 // The value of a field's bytes: 17, then 18 or 19, then 20.
 #![tactic(auto)]
 
-ghost use Rattle.std.specs.Prelude.{◌≡◌, Bool, ◌==◌, ◌+◌, ◌≤◌, T, length, position};
+ghost use Rattle.std.specs.Prelude.{◌≡◌, Bool, ◌==◌, ◌+◌, ◌≤◌, T, length, position, Ok};
 ghost use Rattle.definition.specs.declared.Field.TheVariants as field;
 ghost use Rattle.definition.specs.declared.Kind.TheVariants as kind;
 ghost use Rattle.laws.proofs.Numbers.{valid_size};
@@ -58,27 +58,27 @@ fn unsigned(data: &[u8], at: Offset, big: bool, size: u64) -> Result<Decoded, Re
 }
 
 // f
-fn single(data: &[u8], at: Offset, big: bool) -> Result<Decoded, Refusal>
+fn single(data: &[u8], at: Offset, big: bool) -> Decoded
     requires { at.0 + 4 ≤ length «data».now }
-    ensures { Decodes «data».now at big (field.Number kind.Single 4) result }
+    ensures { Decodes «data».now at big (field.Number kind.Single 4) (Ok result) }
 {
     let word = get_word(data, at.0 as usize, 4, big);
-    Ok(Decoded {
+    Decoded {
         reading: Reading::Float(from_single(word as u32)),
         size: 4,
-    })
+    }
 }
 
 // d n
-fn double(data: &[u8], at: Offset, big: bool) -> Result<Decoded, Refusal>
+fn double(data: &[u8], at: Offset, big: bool) -> Decoded
     requires { at.0 + 8 ≤ length «data».now }
-    ensures { Decodes «data».now at big (field.Number kind.Double 8) result }
+    ensures { Decodes «data».now at big (field.Number kind.Double 8) (Ok result) }
 {
     let word = get_word(data, at.0 as usize, 8, big);
-    Ok(Decoded {
+    Decoded {
         reading: Reading::Float(word),
         size: 8,
-    })
+    }
 }
 
 // A number of a kind in so many bytes.
@@ -95,8 +95,8 @@ pub fn number(data: &[u8], at: Offset, big: bool, kind: Kind, size: u64) -> Resu
         Kind::SmallUnsigned | Kind::LuaUnsigned | Kind::Size | Kind::Unsigned => unsigned(
             data, at, big, size,
         ),
-        Kind::Single => single(data, at, big),
-        Kind::Double => double(data, at, big),
+        Kind::Single => Ok(single(data, at, big)),
+        Kind::Double => Ok(double(data, at, big)),
     }
 }
 
