@@ -22,10 +22,7 @@ use Rattle.laws.proofs.Calls.{Sound, pack_run, length_record, into_fits}
 use Rattle.laws.proofs.Cutting.{plain_is}
 use Rattle.values.specs.Meaning.{is_accepted}
 use Rattle.values.proofs.Lists.{refused_list}
-use Rattle.write.specs.Answers.{continued_call_of}
-use Rattle.write_pass.specs.Walks.{answer_of}
 use Rattle.write_pass.specs.Walks.{values_of, summed, put_at}
-use Rattle.write_pass.specs.declared.Total.{Total}
 use Rattle.write_pass.proofs.Stepping.{list_known}
 use Rattle.emit.proofs.Pasting.{paste_whole}
 
@@ -61,13 +58,13 @@ module _ (t : Table) (is : t ≡ options) (s : State) (f l b : List ℕ) where
 
       -- g is the buffer after the first pass, which is as it was
       module _ {g : List ℕ} (kept : g ≡ b) where
-        pub total_refused : {r : Total} {k : ℕ} → r ≡ Total.Refused k → answer_of r ≡ summed (write t s (values_of l) f) → continued_call_of r g ≡ pack_continued s f l b
-        total_refused {r} {k} e h = rw (kept, e) (refused_call k (sym (ap answer_of e) ∙ h))
+        pub total_refused : {k : ℕ} → refused k ≡ summed (write t s (values_of l) f) → call (refused k) g ≡ pack_continued s f l b
+        total_refused {k} h = rw kept (refused_call k h)
 
-        module _ {r : Total} {a : Continued} (told : r ≡ Total.Of a) (e : answer_of r ≡ summed (write t s (values_of l) f)) where
+        module _ {a : Continued} (told : accepted a ≡ summed (write t s (values_of l) f)) where
           -- the writing that is accepted with the totals a
           made : Bound (write t s (values_of l) f) (λ r. accepted (continued_of r)) a
-          made = bound (write t s (values_of l) f) _ (sym e ∙ ap answer_of told)
+          made = bound (write t s (values_of l) f) _ (sym told)
 
           size : length made.val.1.cells ≡ a.written
           size = ap (λ (x : Continued). x.written) (same made.rest)
@@ -92,7 +89,7 @@ module _ (t : Table) (is : t ≡ options) (s : State) (f l b : List ℕ) where
                 ap (call (accepted a)) front ∙ sym (accepted_is ∙ into_fits b _ m n ∙ ap (λ (x : Continued). call (accepted x) (m ++ drop (length m) b)) (same made.rest))
 
 -- ---- plain writing: continued writing from the start state, and the record's length
-pub plain_call : (f l b d : List ℕ) {r q : Total} {s : State} → r ≡ q → s ≡ start → continued_call_of r d ≡ pack_continued s f l b → call (answer_of q >>= λ a. accepted a.written) d ≡ string_pack f l b
-plain_call f l b d e g h =
+pub plain_call : (f l b d : List ℕ) {c : Checked Continued} {s : State} → s ≡ start → call c d ≡ pack_continued s f l b → call (c >>= λ a. accepted a.written) d ≡ string_pack f l b
+plain_call f l b d g h =
     let from = ap (λ (x : State). pack_continued x f l b) g in
-    ap (λ (c : Call Continued). call (c.answer >>= λ a. accepted a.written) c.buffer) (sym (ap (λ (x : Total). continued_call_of x d) e) ∙ h ∙ from) ∙ sym (plain_is f l b)
+    ap (λ (c : Call Continued). call (c.answer >>= λ a. accepted a.written) c.buffer) (h ∙ from) ∙ sym (plain_is f l b)

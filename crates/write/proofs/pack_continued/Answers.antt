@@ -1,15 +1,23 @@
--- 21 first of all, the first pass, 22, and the second pass.
-use Rattle.std.proofs.Common.{sym, ◌∙◌, subst, refl}
+-- 21 first of all, the first pass, 22, and the second pass, which answers what the first one did.
+use Rattle.std.proofs.Common.{◌≡◌, sym, ap, ◌∙◌, refl, true}
+use Rattle.std.proofs.lemmas.Result.{err_from_is_err_and}
+use Rattle.definition.specs.Answers.{Checked}
+use Rattle.definition.specs.Calls.{call}
+use Rattle.definition.specs.Lists.{values}
 use Rattle.definition.specs.Options.{options}
-use Rattle.laws.proofs.Ops.{Sizes, options_sizes}
-use Rattle.options.specs.Packed.{packed, table_at}
-use Rattle.options.proofs.Options.{packed_options}
+use Rattle.definition.specs.declared.Continued.{Continued}
+use Rattle.laws.proofs.Calls.{Sound}
+use Rattle.values.specs.Meaning.{is_accepted}
 use Rattle.write.proofs.Calls.{unsound, malformed, total_refused, short_call, filled_call}
 use Rattle.write.proofs.pack_continued.Goals as goal
+use Rattle.write.proofs.pack_continued.Goals.{After-table-table}
 
--- the table that is lent is the option table
-sizes : Sizes (table_at packed)
-sizes = subst Sizes (sym packed_options) options_sizes
+-- what the two tests showed
+sound : (c : After-table-table) → Sound c.args.state
+sound c = sym c.is_sound.ensures ∙ c.if-not-is_sound.false
+
+listed : (c : After-table-table) → is_accepted (values c.args.list.now) ≡ true
+listed c = sym c.is_list.ensures ∙ c.if-not-is_list.false
 
 pub returns-then-not-is_sound : goal.returns-then-not-is_sound
 returns-then-not-is_sound c = unsound options refl _ _ _ _ (sym c.is_sound.ensures ∙ c.if-not-is_sound.true)
@@ -17,25 +25,20 @@ returns-then-not-is_sound c = unsound options refl _ _ _ _ (sym c.is_sound.ensur
 pub returns-then-not-is_list : goal.returns-then-not-is_list
 returns-then-not-is_list c = malformed options refl _ _ _ _ (sym c.is_sound.ensures ∙ c.if-not-is_sound.false) (sym c.is_list.ensures ∙ c.if-not-is_list.true)
 
-pub pass-total-requires-clause-sizes : goal.pass-total-requires-clause-sizes
-unfolding packed
-pass-total-requires-clause-sizes c = sizes
+pub returns-in_err-total : goal.returns-in_err-total
+returns-in_err-total c =
+    let p = err_from_is_err_and c.from_residual.result c.from_residual.ensures.1 in
+    let t = (goal.at.returns-in_err-total c).After-table-table in
+    rw (p.1, p.2) (total_refused _ c.table-table.ensures _ _ _ _ (sound t) (listed t) c.pass.ensures.bytes c.in_err-total.ensures.total)
 
-pub returns-in_default : goal.returns-in_default
-unfolding packed
-returns-in_default c =
-    total_refused _ packed_options _ _ _ _ (sym c.is_sound.ensures ∙ c.if-not-is_sound.false) (sym c.is_list.ensures ∙ c.if-not-is_list.false) c.pass-total.ensures.bytes c.in_default.is c.pass-total.ensures.total
-
-pub returns-then-out-c : goal.returns-then-out-c
-unfolding packed
-returns-then-out-c c =
-    short_call _ packed_options _ _ _ _ (sym c.is_sound.ensures ∙ c.if-not-is_sound.false) (sym c.is_list.ensures ∙ c.if-not-is_list.false) c.pass-total.ensures.bytes c.in-Of.is c.pass-total.ensures.total c.if-out-c.true
-
-pub pass-requires-clause-sizes : goal.pass-requires-clause-sizes
-unfolding packed
-pass-requires-clause-sizes c = sizes
+pub returns-then-out-total : goal.returns-then-out-total
+returns-then-out-total c =
+    let t = (goal.at.returns-then-out-total c).After-table-table in
+    short_call _ c.table-table.ensures _ _ _ _ (sound t) (listed t) c.pass.ensures.bytes c.in_ok-total.ensures.total c.if-out-total.true
 
 pub returns : goal.returns
-unfolding packed
 returns c =
-    filled_call _ packed_options _ _ _ _ (sym c.is_sound.ensures ∙ c.if-not-is_sound.false) (sym c.is_list.ensures ∙ c.if-not-is_list.false) c.pass-total.ensures.bytes c.in-Of.is c.pass-total.ensures.total c.if-out-c.false c.pass.ensures.bytes
+    let t = (goal.at.returns c).After-table-table in
+    let same = c.pass-2.ensures.total ∙ sym c.in_ok-total.ensures.total in
+    ap (λ (a : Checked Continued). call a c.pass-2.new.out) same
+    ∙ filled_call _ c.table-table.ensures _ _ _ _ (sound t) (listed t) c.pass.ensures.bytes c.in_ok-total.ensures.total c.if-out-total.false c.pass-2.ensures.bytes
