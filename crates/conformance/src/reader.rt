@@ -1,14 +1,14 @@
 // Bytes and numbers as a line of text writes them: "AB" for a text's bytes, FE or 0304FE for bytes in hexadecimal, i-2 for
 // the field of an integer in a value list. A `*` and a number behind one of them repeat it. Spaces between them mean
 // nothing. What a buffer has no room for is left out. What is read is given with the text behind it.
-ghost use Rattle.std.specs.Prelude.{◌<◌, ◌≤◌, length, IfSome};
+ghost use Rattle.std.specs.Prelude.{◌≡◌, ◌+◌, ◌<◌, ◌≤◌, length, IfSome};
 
 use crate::parts::front;
 
 // What a text begins with as long as a test holds, and the text behind it.
 pub fn split_while<F: Fn(u8) -> bool>(text: &[u8], test: F) -> (&[u8], &[u8])
     requires { F.IsAlwaysCallable test }
-    ensures { length result.1.now ≤ length text.now }
+    ensures { length result.0.now + length result.1.now ≡ length text.now }
 {
     let end = text.iter().position(|b| !test(*b)).unwrap_or(text.len());
     text.split_at(end)
@@ -101,12 +101,13 @@ fn part_of(text: &[u8]) -> Option<(Part<'_>, &[u8])>
             let (n, behind) = integer(rest);
             Some((Part::Field(n), behind))
         }
-        [first, ..] => {
-            digit(*first)?;
+        _ => {
             let (digits, behind) = split_while(text, |b| digit(b).is_some());
+            if digits.is_empty() {
+                return None;
+            }
             Some((Part::Digits(digits), behind))
         }
-        [] => None,
     }
 }
 
