@@ -44,6 +44,7 @@ fn first_line(input: &[u8]) -> &[u8]
 }
 
 // Whether the answer to an input stands, whatever follows it: its first line is complete, or too long.
+#[tactic(auto, using(crate::proofs::Inputs::settled_long, crate::proofs::Inputs::settled_short))]
 pub fn is_settled(input: &[u8]) -> bool
     ensures told { result ≡ settled input.now }
     ensures stands { result ≡ true → Stands input.now }
@@ -53,6 +54,7 @@ pub fn is_settled(input: &[u8]) -> bool
 }
 
 // The answer to an input.
+#[tactic(auto, using(crate::proofs::Inputs::printed_long, crate::proofs::Inputs::printed_short))]
 pub fn answer_to(input: &[u8]) -> Answer
     ensures { line (answer_of result.0) ≡ printed input.now }
 {
