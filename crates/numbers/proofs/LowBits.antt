@@ -1,10 +1,10 @@
 -- The remainder by 2^64 by a float's bits: below 2^64 a float is its own, and from there on it is a whole number, whose lowest 64 bits are left.
-use Rattle.std.proofs.Common.{◌≡◌, ℕ, zero, suc, ◌+◌, ◌-◌, ◌*◌, ◌/◌, ◌%◌, ◌^◌, ◌<◌, ◌≤◌, Bool, true, false, not, ◌&&◌, cond, T, eqb, ltb, leb, pos, sym, refl, ap, subst, ◌∙◌}
-use Rattle.std.proofs.Common.{lt_of_lt_of_le, lt_of_le_of_lt, le_of_eq, mod-lt, mod-eq_of_lt, mul_right_comm, mul_assoc, mul-one, mul-lt-mul_of_pos_right, lt_of_mul-lt-mul_right, arith, pow_pos, pow_mono, pow-add, shl_lt, eq-eqb}
+use Rattle.std.proofs.Common.{◌≡◌, ℕ, zero, suc, ◌+◌, ◌-◌, ◌*◌, ◌/◌, ◌%◌, ◌^◌, ◌<◌, ◌≤◌, Bool, true, false, cond, T, eqb, ltb, leb, pos, sym, refl, ap, subst, ◌∙◌}
+use Rattle.std.proofs.Common.{lt_of_lt_of_le, lt_of_le_of_lt, le_of_eq, mod-lt, mod-eq_of_lt, mul_right_comm, mul_assoc, mul-one, mul-lt-mul_of_pos_right, lt_of_mul-lt-mul_right, arith, pow_pos, pow_mono, pow-add, shl_lt}
 use mathlib.Core.Bool.{false≢true}
 use native.Mathlib.Nat.{eq_of_mul-eq-mul_right, mul-mod_left}
 use borrow.Author.Tests.{le-leb, lt-leb}
-use lib.Ieee.{Float, nan, inf, fin, binary64, up, down, units, round, rem, neg, ne, eq, is_nan, fits, odd, of_int, of_fields, of_bits, to_bits}
+use lib.Ieee.{Float, nan, inf, fin, binary64, up, down, units, round, rem, neg, is_nan, fits, odd, of_int, of_fields, of_bits, to_bits}
 use lib.Ieee.Fits.{down_pos, rem-fits, round_is}
 use lib.Ieee.Bits.{of_bits-to_bits}
 use lib.Ieee.Exact.{HasValue, odd_sign}

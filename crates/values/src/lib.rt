@@ -99,10 +99,10 @@ pub fn is_list(list: &[u8]) -> bool
 {
     let mut at = 0;
     while at < list.len() {
-        let Some(n) = content_at(list, at) else {
-            return false;
-        };
-        at = at + HEAD + n;
+        match content_at(list, at) {
+            Some(n) => at += HEAD + n,
+            None => return false,
+        }
     }
     true
 }
@@ -116,7 +116,7 @@ pub fn fields_after(list: &[u8], k: u64) -> usize
         let Some(n) = Reader { list, at }.length() else {
             return list.len();
         };
-        at = at + HEAD + n;
+        at += HEAD + n;
     }
     at
 }

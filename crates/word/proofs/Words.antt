@@ -10,18 +10,18 @@ use mathlib.Core.Option.{Option, none, some}
 use Rattle.std.specs.Prelude as rust
 use Rattle.std.specs.Prelude.{Result, Ok, Err, IfOk}
 use Rattle.std.specs.Option.{ok_or}
-use lib.Dec.{T, ltb}
+use lib.Dec.{T, leb, ltb}
 use lib.IntN.{ℤ, pos, negsuc}
 use lib.Signed.{lt_z, mag}
 use lib.Ieee.{binary64, of_bits}
 use mir.Syntax.{w64}
 use mir.Val.{to_z, of_z, SFits}
 use mir.Facts.{to_z-of_z}
-use borrow.Author.Tests.{lt-ltb, le-ltb, ltb-true, ltb-false}
+use borrow.Author.Tests.{le-leb, lt-ltb, le-ltb, ltb-true, ltb-false}
 use Rattle.definition.specs.Answers.{Checked, refused, accepted, ◌>>=◌, ◌>>◌, require, or_else}
 use Rattle.definition.specs.Bytes.{bits, sign, extent, laid}
 use Rattle.definition.specs.Values.{Value, integer, float, text, other, as_integer, as_number, wrapped}
-use Rattle.definition.specs.Fields.{in_signed, in_unsigned, float_by, word}
+use Rattle.definition.specs.Fields.{in_unsigned, float_by, word}
 use Rattle.definition.specs.declared.Kind.{Kind}
 use Rattle.definition.specs.declared.Kind.TheVariants.{SmallSigned, SmallUnsigned, Signed, Unsigned, LuaInteger, LuaUnsigned, Size, Single, Double}
 use Rattle.definition.specs.Refusals.{refusal_number, answer_of}
@@ -60,8 +60,8 @@ says_as n r h i = subst (λ (z : Checked ℤ). Says n z r) (sym i) h
 
 -- ---- ranges
 
-pub all_bits : (b : ℕ) (z : ℤ) → 64 ≤ b → SFits w64 z → ltb (extent z) (2 ^ b) ≡ true
-all_bits b z h f = lt-ltb (extent z) (2 ^ b) (omega (arith, extent_fits z f, pow_mono h))
+pub all_bits : (b : ℕ) (z : ℤ) → 64 ≤ b → SFits w64 z → leb 64 b ≡ ltb (extent z) (2 ^ b)
+all_bits b z h f = le-leb 64 b h ∙ sym (lt-ltb (extent z) (2 ^ b) (omega (arith, extent_fits z f, pow_mono h)))
 
 -- a shift that stays inside 64 bits
 shifted : (k : ℕ) → k < 64 → (1 * 2 ^ k) % 18446744073709551616 ≡ 2 ^ k
@@ -79,11 +79,11 @@ double_ltb a b c e = go (ltb a b) refl
     go true h = sym (lt-ltb (a * 2) c (omega (arith, ltb-true a b h)))
     go false h = sym (le-ltb (a * 2) c (omega (arith, ltb-false a b h)))
 
-pub signed_bits : (n : ℕ) (z : ℤ) → 1 ≤ n → ltb (extent z) (2 ^ (8 * n - 1)) ≡ in_signed n z
-signed_bits n z l = double_ltb (extent z) (2 ^ (8 * n - 1)) (256 ^ n) (half n l)
+pub signed_range : (r s : Bool) (n : ℕ) (z : ℤ) → 1 ≤ n → s ≡ true → r ≡ ltb (extent z) (2 ^ (8 * n - 1)) → r ≡ in_range s n z
+signed_range r s n z l t e = rw t (e ∙ double_ltb (extent z) (2 ^ (8 * n - 1)) (256 ^ n) (half n l))
 
-pub unsigned_bits : (n : ℕ) (z : ℤ) → SFits w64 z → lt_z (to_z w64 (of_z w64 z)) (pos 0) ≡ false → ltb (extent z) (2 ^ (8 * n)) ≡ in_unsigned n z
-unsigned_bits n z f h = ap (ltb (extent z)) (bits_of_bytes n) ∙ sym (ap (in_unsigned n) (positive z f h))
+pub unsigned_range : (r s : Bool) (n : ℕ) (z : ℤ) → SFits w64 z → s ≡ false → lt_z (to_z w64 (of_z w64 z)) (pos 0) ≡ false → r ≡ ltb (extent z) (2 ^ (8 * n)) → r ≡ in_range s n z
+unsigned_range r s n z f t h e = rw t (e ∙ ap (ltb (extent z)) (bits_of_bytes n) ∙ sym (ap (in_unsigned n) (positive z f h)))
 
 -- ---- an integer z that was bound from an answer, and passes a test
 pub says_ranged : (inside : ℤ → Bool) (n : ℕ) (z : ℤ) {x : Checked ℤ} (r : Result ℕ Refusal) → mag z < 2 ^ 63 → x ≡ ranged_or (inside z) z → Says n (ranged_or (inside (to_z w64 (of_z w64 z))) (to_z w64 (of_z w64 z))) r → Says n x r

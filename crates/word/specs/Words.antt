@@ -1,6 +1,6 @@
 -- What a word says.
-use Rattle.std.specs.Prelude.{ℕ, ◌^◌, ◌≡◌, Bool, true, false, cond, List, ltb, ℤ, Result}
-use Rattle.definition.specs.Answers.{Checked, refused, accepted, ◌>>=◌, ◌>>◌, require}
+use Rattle.std.specs.Prelude.{ℕ, ◌^◌, ◌≡◌, Bool, true, false, cond, ltb, ℤ, Result}
+use Rattle.definition.specs.Answers.{Checked, accepted, ◌>>=◌, ◌>>◌, require}
 use Rattle.definition.specs.Bytes.{laid, coded}
 use Rattle.definition.specs.Fields.{in_signed, in_unsigned}
 use Rattle.definition.specs.Refusals.{answer_by}

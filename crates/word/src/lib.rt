@@ -44,6 +44,7 @@ fn any_integer(v: Value) -> Result<u64, Refusal>
 }
 
 // Whether an integer, a negative one as -1 - z, has at most so many bits.
+#[tactic(auto, using(crate::proofs::Words::all_bits))]
 fn has_bits(bits: u64, z: i64) -> bool
     ensures { result ≡ ltb (extent z) (2 ^ bits) }
 {
@@ -51,6 +52,7 @@ fn has_bits(bits: u64, z: i64) -> bool
 }
 
 // Whether an integer is in the range of size bytes: the signed range, or the other.
+#[tactic(auto, using(crate::proofs::Words::signed_range, crate::proofs::Words::unsigned_range))]
 fn is_in_range(signed: bool, size: u64, z: i64) -> bool
     requires { (1 ≤ size) × (size ≤ 16) }
     ensures { result ≡ in_range signed size z }

@@ -24,7 +24,8 @@ loop-preserved c =
     let h = c.in-Some.ensures in
     let left = c.args.k - i.counter in
     let fewer : c.args.k - (i.counter + 1) ≡ left - 1 = omega arith in
-    (h.within, rw (fewer, h.size) (sym (after_next l i.at left (omega arith)) ∙ i.invariant.1))
+    let next : i.at + (3 + c.in-Some.n) ≡ i.at + 3 + size_at l i.at = omega (arith, h.size) in
+    (omega (arith, h.within), ap (λ n. fields_after (c.args.k - (i.counter + 1)) (drop n l)) next ∙ rw fewer (sym (after_next l i.at left (omega arith)) ∙ i.invariant.1))
 
 pub returns : goal.returns
 unfolding fields_after

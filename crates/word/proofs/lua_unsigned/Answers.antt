@@ -1,5 +1,5 @@
 -- The integer that was found, if it is in range, or a float's bits, which are.
-use Rattle.std.proofs.Common.{rules, ◌<◌, ◌^◌, sym, ap, ◌∙◌, arith, lit≤}
+use Rattle.std.proofs.Common.{rules, ◌<◌, ◌^◌, sym, arith, lit≤}
 use Rattle.std.specs.Prelude.{IfOk}
 use Rattle.definition.specs.Fields.{in_unsigned}
 use Rattle.word.proofs.Words.{says_ranged, says_bits, of_integer, lua_unsigned_bits}
