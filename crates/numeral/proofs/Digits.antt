@@ -16,6 +16,7 @@ use Rattle.laws.proofs.Answers.{both_parts}
 use Rattle.std.specs.Prelude.{Option, Some, None, Result, Ok, Err, MatchOption, unwrap_or}
 use Rattle.std.specs.List.{AllWithin, HoldsAt}
 use Rattle.definition.specs.declared.Refusal.{Refusal}
+use Rattle.definition.specs.declared.Refusal.TheVariants.{NumeralTooLarge}
 use Rattle.numeral.specs.Numerals.{digit_first, grown, digit_on, read_on, numeral, reached, read_of, short_of}
 use Rattle.numeral.specs.declared.Numeral.{Numeral}
 use Rattle.numeral.specs.declared.Short.TheVariants as Short
@@ -155,6 +156,11 @@ unfolding digits digit_on
 read_on_lem n at [] h = read_none n at h
 read_on_lem n at (b ∷ s) h = cases (is_digit b) (λ q. rw q (read_digit n at b s)) (λ q. rw q (read_none n at h))
 
+-- what is refused is too large
+pub too_large : (n at : ℕ) (ds : List ℕ) (r : Refusal) → Err r ≡ read_on n at ds → Err NumeralTooLarge ≡ read_on n at ds
+unfolding read_on
+too_large n at ds r e = cases (ltb (value n ds) (2 ^ 64)) (λ q. let x = rw q at e in let z : ◌≡◌ {A = ℕ} 0 1 = cc in absurd (omega arith)) (λ q. rw q)
+
 -- what a digit leaves: one byte less
 pub left_behind : (s : List ℕ) (at left : ℕ) → at < length s → 0 < left → drop 1 (take left (drop at s)) ≡ take (left - 1) (drop (at + 1) s)
 left_behind s at left h l = rw (left_at s at left h l)
@@ -201,13 +207,13 @@ value_of (Ok m) = m.value
 value_of (Err r) = 0
 
 -- the number that one digit makes
-digit_made : {A : Type 0} (d at : ℕ) (t : Result A Refusal) (n i : ℕ) → is_digit d ≡ true → d ≤ 57 → reached t n i ≡ read_on 0 at (digits (d ∷ [])) → n ≡ d - 48
+digit_made : {A : Type 0} (d at : ℕ) (t : Option A) (n i : ℕ) → is_digit d ≡ true → d ≤ 57 → reached t n i ≡ read_on 0 at (digits (d ∷ [])) → n ≡ d - 48
 unfolding digits read_on value
-digit_made d at (Ok u) n i e h q =
+digit_made d at (Some u) n i e h q =
     let r = rw (e, lt-ltb (0 * 10 + (d - 48)) (2 ^ 64) (omega arith)) at q in
     let v : n ≡ 0 * 10 + (d - 48) = ap value_of r in
     omega arith
-digit_made d at (Err r) n i e h q =
+digit_made d at None n i e h q =
     let r = rw (e, lt-ltb (0 * 10 + (d - 48)) (2 ^ 64) (omega arith)) at q in
     let z : ◌≡◌ {A = ℕ} 0 1 = cc in
     absurd (omega arith)
@@ -217,7 +223,7 @@ module _ (s : List ℕ) (at : ℕ) (e : digit_first (drop at s) ≡ true) where
   short_long f = rw (digits_more s at e, digits_more s (at + 1) f)
 
   -- no digit follows, and n was read with one byte left
-  module _ (f : digit_first (drop (at + 1) s) ≡ false) {A : Type 0} (t : Result A Refusal) (n i : ℕ)
+  module _ (f : digit_first (drop (at + 1) s) ≡ false) {A : Type 0} (t : Option A) (n i : ℕ)
       (q : reached t n i ≡ read_on 0 at (digits (take 1 (drop at s)))) where
     alone : digits (drop at s) ≡ get_or s at 0 ∷ []
     alone = rw (digits_more s at e, digits_stop (drop (at + 1) s) f)

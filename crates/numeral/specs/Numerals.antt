@@ -29,10 +29,10 @@ numeral v i = record { value = v; end = i }
 unfoldable pub read_on : ℕ → ℕ → List ℕ → Result Numeral Refusal
 read_on n at ds = cond (ltb (value n ds) (2 ^ 64)) (Ok (numeral (value n ds) (at + length ds))) (Err Refusal.NumeralTooLarge)
 
--- the number and the place that are reached, unless the number is refused
-abbrev pub reached : {A : Type 0} → Result A Refusal → ℕ → ℕ → Result Numeral Refusal
-reached (Ok u) n at = Ok (numeral n at)
-reached (Err r) n at = Err r
+-- the number and the place that are reached, unless the number is too large
+abbrev pub reached : {A : Type 0} → Option A → ℕ → ℕ → Result Numeral Refusal
+reached (Some u) n at = Ok (numeral n at)
+reached None n at = Err Refusal.NumeralTooLarge
 
 -- a numeral, and the place after its digits
 abbrev pub read_of : items.Numeral → ℕ → Result (Option Numeral) Refusal

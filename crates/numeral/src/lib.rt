@@ -45,7 +45,7 @@ fn skip_zeros(text: &[u8]) -> usize
     text.iter().position(|b| *b != b'0').unwrap_or(text.len())
 }
 
-// The place after the digits at a place.
+// The place after the digits at a place. The place may lie behind the text, so a part of the text in place of the count would need a case more.
 pub fn skip_digits(text: &[u8], at: usize) -> usize
     ensures { result ≡ at + length (digits (drop at text.now)) }
 {
@@ -75,17 +75,21 @@ fn digit_on(text: &[u8], at: usize, n: u64, left: usize) -> Result<Option<u64>, 
 }
 
 // Reads the digits at a place one a step, as long as bytes are left: n, which the digits before made, becomes the number that they make, and
-// at the place after them. The slice is lent by a reference, as n and at are, so that a step compiles to a jump.
-fn read_digits(text: &&[u8], at: &mut usize, n: &mut u64, left: usize) -> Result<(), Refusal>
+// at the place after them. None says that they make 2^64 or more. The slice is lent by a reference, as n and at are, and the answer is a tag
+// alone, so that a step compiles to a jump: with a refusal in the answer it is a call, of 23 instructions in place of 16.
+fn read_digits(text: &&[u8], at: &mut usize, n: &mut u64, left: usize) -> Option<()>
     requires { length text.now.now < 2 ^ 63 }
     ensures { reached result n.new at.new ≡ read_on n.old at.old (digits (take left (drop at.old text.now.now))) }
 {
-    if let Some(m) = digit_on(*text, *at, *n, left)? {
-        *n = m;
-        *at += 1;
-        return read_digits(text, at, n, left - 1);
+    match digit_on(*text, *at, *n, left) {
+        Ok(None) => Some(()),
+        Err(_) => None,
+        Ok(Some(m)) => {
+            *n = m;
+            *at += 1;
+            read_digits(text, at, n, left - 1)
+        }
     }
-    Ok(())
 }
 
 // The numeral at the front.
@@ -98,8 +102,10 @@ pub fn read(text: &[u8]) -> Result<Option<Numeral>, Refusal>
     let mut end = skip_zeros(text);
     let mut value = 0;
     let left = text.len() - end;
-    read_digits(&text, &mut end, &mut value, left)?;
-    Ok(Some(Numeral { value, end }))
+    match read_digits(&text, &mut end, &mut value, left) {
+        Some(()) => Ok(Some(Numeral { value, end })),
+        None => Err(Refusal::NumeralTooLarge),
+    }
 }
 
 // What the numeral at a place shows at once. A digit alone is read with one byte left, and none is too large.

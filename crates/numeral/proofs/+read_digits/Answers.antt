@@ -1,11 +1,10 @@
 -- The next digit decides: stop, too large, or the digits after it, with one byte less left.
 use Rattle.std.proofs.Common.{◌≡◌, ℕ, ◌+◌, ◌-◌, ◌^◌, ◌<◌, List, take, drop, sym, ap, ◌∙◌, arith}
-use Rattle.std.specs.Prelude.{Option, Some, None, Result, Ok}
-use Rattle.std.proofs.lemmas.Result.{err_from_is_err_and}
+use Rattle.std.specs.Prelude.{Option, Some, None, Result, Ok, Err}
 use Rattle.definition.specs.Items.{digits}
 use Rattle.definition.specs.declared.Refusal.{Refusal}
 use Rattle.numeral.specs.Numerals.{digit_on, read_on}
-use Rattle.numeral.proofs.Digits.{read_on_lem, onward, more_inside, left_behind}
+use Rattle.numeral.proofs.Digits.{read_on_lem, onward, more_inside, left_behind, too_large}
 use Rattle.numeral.proofs.+read_digits.Goals as goal
 
 -- the digits of the bytes left, by the first of them
@@ -20,27 +19,29 @@ past n m at left s h e =
     ap (λ (l : List ℕ). read_on m (at + 1) (digits l)) (sym (left_behind s at left i.0 i.1)) ∙ decided n at (take left (drop at s)) (Ok (Some m)) h e
 
 pub overflow_add-at : goal.overflow_add-at
-overflow_add-at t c = let a = c.args in omega (arith, more_inside a.n.now a.text.now.now a.at.now a.left c.in-Some.m (sym (rw c.in-Some.is at c.in_ok-m.ensures)))
+overflow_add-at t c = let a = c.args in omega (arith, more_inside a.n.now a.text.now.now a.at.now a.left c.in-Ok-Some.m (sym (rw c.in-Ok-Some.field-0-is at c.in-Ok-Some.ensures)))
 
 pub overflow_sub-left : goal.overflow_sub-left
-overflow_sub-left t c = let a = c.args in omega (arith, more_inside a.n.now a.text.now.now a.at.now a.left c.in-Some.m (sym (rw c.in-Some.is at c.in_ok-m.ensures)))
+overflow_sub-left t c = let a = c.args in omega (arith, more_inside a.n.now a.text.now.now a.at.now a.left c.in-Ok-Some.m (sym (rw c.in-Ok-Some.field-0-is at c.in-Ok-Some.ensures)))
 
 pub read_digits-requires : goal.read_digits-requires
 read_digits-requires t c =
     let a = c.args in
-    let i = more_inside a.n.now a.text.now.now a.at.now a.left c.in-Some.m (sym (rw c.in-Some.is at c.in_ok-m.ensures)) in
+    let i = more_inside a.n.now a.text.now.now a.at.now a.left c.in-Ok-Some.m (sym (rw c.in-Ok-Some.field-0-is at c.in-Ok-Some.ensures)) in
     (omega arith, c.requires)
 
-pub returns-in_err-m : goal.returns-in_err-m
-returns-in_err-m t c =
+pub returns-in-Ok-None : goal.returns-in-Ok-None
+returns-in-Ok-None t c =
     let a = c.args in
-    let p = err_from_is_err_and c.from_residual.result c.from_residual.ensures.1 in
-    rw (p.1, p.2) (decided a.n.now a.at.now (take a.left (drop a.at.now a.text.now.now)) _ (omega arith) c.in_err-m.ensures)
+    decided a.n.now a.at.now (take a.left (drop a.at.now a.text.now.now)) (Ok None) (omega arith) (rw c.in-Ok-None.field-0-is at c.in-Ok-None.ensures)
 
-pub returns-in-Some : goal.returns-in-Some
-returns-in-Some t c =
+pub returns-in-Err : goal.returns-in-Err
+returns-in-Err t c =
     let a = c.args in
-    c.read_digits.ensures ∙ past a.n.now c.in-Some.m a.at.now a.left a.text.now.now (omega arith) (rw c.in-Some.is at c.in_ok-m.ensures)
+    let s = take a.left (drop a.at.now a.text.now.now) in
+    too_large a.n.now a.at.now (digits s) c.in-Err.field-0 (decided a.n.now a.at.now s (Err c.in-Err.field-0) (omega arith) c.in-Err.ensures)
 
-pub returns : goal.returns
-returns t c = let a = c.args in decided a.n.now a.at.now (take a.left (drop a.at.now a.text.now.now)) (Ok None) (omega arith) (rw c.in_default.is at c.in_ok-m.ensures)
+pub returns-in-Ok-Some : goal.returns-in-Ok-Some
+returns-in-Ok-Some t c =
+    let a = c.args in
+    c.read_digits.ensures ∙ past a.n.now c.in-Ok-Some.m a.at.now a.left a.text.now.now (omega arith) (rw c.in-Ok-Some.field-0-is at c.in-Ok-Some.ensures)

@@ -1,7 +1,6 @@
 -- The zeros at the front count for nothing; past them the digits are read with all bytes left.
 use mathlib.Core.Path.{◌≡◌, sym, ap, ◌∙◌}
 use native.Mathlib.Omega.{arith}
-use Rattle.std.proofs.lemmas.Result.{err_from_is_err_and}
 use Rattle.numeral.specs.Numerals.{reached}
 use Rattle.numeral.proofs.Digits.{digits_length, front_of, found, front_none, front_rest}
 use Rattle.numeral.proofs.read.Goals as goal
@@ -22,11 +21,10 @@ pub overflow_sub-left : goal.overflow_sub-left
 overflow_sub-left c =
     omega (arith, c.skip_zeros-end.ensures.ends, digits_length c.args.text.now)
 
-pub returns-in_err-read_digits : goal.returns-in_err-read_digits
-returns-in_err-read_digits c =
-    let p = err_from_is_err_and c.from_residual.result c.from_residual.ensures.1 in
-    rw (p.1, p.2) (rw c.in_err-read_digits.was at (numeral (goal.at.returns-in_err-read_digits c).After-read_digits))
+pub returns-in-Some : goal.returns-in-Some
+returns-in-Some c =
+    rw c.in-Some.is at (numeral (goal.at.returns-in-Some c).After-read_digits)
 
-pub returns : goal.returns
-returns c =
-    rw c.in_ok-read_digits.was at (numeral (goal.at.returns c).After-read_digits)
+pub returns-in-None : goal.returns-in-None
+returns-in-None c =
+    rw c.in-None.is at (numeral (goal.at.returns-in-None c).After-read_digits)
