@@ -8,7 +8,7 @@ use lib.Dec.{eqb, ltb, leb-suc-suc}
 use lib.ListN.{length, take, drop, length-drop}
 use lib.Seq.{length-take-le, take_all, drop-drop}
 use borrow.Author.Tests.{le-leb, lt-leb, lt-ltb}
-use Rattle.std.specs.Prelude.{Option, Some, None, Result, Ok, Err, nat_lt, ◌==◌, position}
+use Rattle.std.specs.Prelude.{Option, Some, None, Ok, Err, ◌==◌, position}
 use Rattle.std.specs.List.{position_or_len}
 use Rattle.std.proofs.lemmas.List.Quantifiers.{position-Some}
 use Rattle.definition.specs.Answers.{Checked, refused, accepted, ◌>>=◌}

@@ -2,7 +2,7 @@
 use Rattle.std.specs.Prelude.{ℕ, ◌+◌, ◌≤◌, ◌≡◌, Bool, true, false, List, length, take, drop, Result, IfOk}
 use Rattle.definition.specs.Refusals.{answer_by}
 use Rattle.definition.specs.Values.{Value, integer, float, text}
-use Rattle.definition.specs.Fields.{up_to_zero, decode}
+use Rattle.definition.specs.Fields.{decode}
 use Rattle.definition.specs.declared.Offset.{Offset}
 use Rattle.definition.specs.declared.Refusal.{Refusal}
 use Rattle.definition.specs.declared.Field.{Field}
