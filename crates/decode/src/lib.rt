@@ -28,6 +28,9 @@ pub struct Decoded {
     pub size: u64,
 }
 
+// Below, the data and an offset in it stay two arguments: a text is told by its offset in the whole data, which a slice that
+// begins at the offset does not know.
+
 // The length of the longest text that a value list holds.
 const MAX_TEXT: u64 = 65535;
 

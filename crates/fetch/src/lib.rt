@@ -24,6 +24,9 @@ pub enum Fetched {
     Read(Reading, Offset),
 }
 
+// Below, the data and the state stay two arguments: each item makes a new state in the same data, so a type that holds both
+// with the promise `Stands` would be made, and its promise proved, anew at every item.
+
 // Past k bytes, where so many are left from an offset on: 17.
 fn skip(at: Offset, rest: u64, k: u64) -> Result<Offset, Refusal>
     requires { at.0 + rest < 2 ^ 64 }

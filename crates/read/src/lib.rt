@@ -27,6 +27,7 @@ pub fn string_unpack(
     if (list.len() as u64) < total.length {
         return Err(Refusal::ResultTooLong);
     }
+    // It refuses nothing that the first pass accepted.
     pass(&options, format, data, s, list, true)?;
     Ok(Unpacked {
         length: total.length,
