@@ -60,8 +60,8 @@ says_as n r h i = subst (λ (z : Checked ℤ). Says n z r) (sym i) h
 
 -- ---- ranges
 
-pub all_bits : (b : ℕ) (z : ℤ) → 64 ≤ b → SFits w64 z → leb 64 b ≡ ltb (extent z) (2 ^ b)
-all_bits b z h f = le-leb 64 b h ∙ sym (lt-ltb (extent z) (2 ^ b) (omega (arith, extent_fits z f, pow_mono h)))
+pub all_bits : (b : ℕ) (z : ℤ) → 63 ≤ b → SFits w64 z → leb 63 b ≡ ltb (extent z) (2 ^ b)
+all_bits b z h f = le-leb 63 b h ∙ sym (lt-ltb (extent z) (2 ^ b) (omega (arith, extent_fits z f, pow_mono h)))
 
 -- a shift that stays inside 64 bits
 shifted : (k : ℕ) → k < 64 → (1 * 2 ^ k) % 18446744073709551616 ≡ 2 ^ k

@@ -43,12 +43,12 @@ fn any_integer(v: Value) -> Result<u64, Refusal>
     Ok(to_word(z))
 }
 
-// Whether an integer, a negative one as -1 - z, has at most so many bits.
+// Whether an integer, a negative one as -1 - z, has at most so many bits; each one has at most 63.
 #[tactic(auto, using(crate::proofs::Words::all_bits))]
 fn has_bits(bits: u64, z: i64) -> bool
     ensures { result ≡ ltb (extent z) (2 ^ bits) }
 {
-    bits >= 64 || extent(z) < 1 << bits
+    bits >= 63 || extent(z) < 1 << bits
 }
 
 // Whether an integer is in the range of size bytes: the signed range, or the other.
