@@ -5,6 +5,9 @@ ghost use Rattle.std.specs.Prelude.{◌≡◌, ◌<◌};
 ghost use Rattle.definition.specs.Bytes.{bits, sign, extent, signed};
 ghost use Rattle.words.specs.Digits.{place_of};
 
+// The least word of a negative integer.
+const SIGN: u64 = 0x8000_0000_0000_0000;
+
 // n for n, and n for -1 - n.
 pub fn extent(x: i64) -> u64
     ensures { result ≡ extent x }
@@ -24,7 +27,7 @@ pub fn to_word(x: i64) -> u64
 pub fn to_signed(word: u64) -> i64
     ensures { result ≡ signed 8 word }
 {
-    if word < 9223372036854775808 {
+    if word < SIGN {
         word as i64
     } else {
         let n = 0u64.wrapping_sub(word) - 1;
