@@ -5,24 +5,10 @@ use mathlib.Core.Bool.{Bool, true, false, ◌||◌, cond}
 use native.Mathlib.Omega.{arith}
 use lib.Dec.{eqb, ltb}
 use borrow.Table.Steps.{cases}
-use borrow.Author.Tests.{eqb-true, eqb-false, ltb-true, ltb-false, lt-ltb, le-ltb, eq-eqb, ne_eqb}
+use borrow.Author.Tests.{eqb-true, eqb-false, ltb-true, ltb-false, lt-ltb, le-ltb, ne_eqb}
 use Rattle.calendar.specs.Calendar.{is_leap, month_length, days_before_month, days_before_year}
 use Rattle.calendar.proofs.Counts.{every, each, year_on}
 use Rattle.dates.specs.Fourth.{fourth, days_before_fourth}
-
--- ---- leap years, by their divisors
-
-pub no_fourth : (y : ℕ) → (y % 4 ≡ 0 → ⊥) → is_leap y ≡ false
-unfolding is_leap
-no_fourth y n = rw (ne_eqb (y % 4) 0 n)
-
-pub no_century : (y : ℕ) → y % 4 ≡ 0 → (y % 100 ≡ 0 → ⊥) → is_leap y ≡ true
-unfolding is_leap
-no_century y e n = rw (eq-eqb (y % 4) 0 e, ne_eqb (y % 100) 0 n)
-
-pub century : (y : ℕ) → y % 4 ≡ 0 → y % 100 ≡ 0 → is_leap y ≡ eqb (y % 400) 0
-unfolding is_leap
-century y e f = rw (eq-eqb (y % 4) 0 e, eq-eqb (y % 100) 0 f)
 
 -- ---- years
 

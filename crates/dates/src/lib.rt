@@ -18,19 +18,15 @@ const MAX_DAY: u64 = 65535;
 // The number of a 29 February 2100.
 const NO_DAY: u64 = 36584;
 
+#[tactic(auto, unfolding(calendar::specs::Calendar::is_leap))]
 fn is_leap(year: u64) -> bool
     ensures { result ≡ is_leap year }
 {
-    if year % 4 != 0 {
-        return false;
-    }
-    if year % 100 != 0 {
-        return true;
-    }
-    year % 400 == 0
+    year % 4 == 0 && (year % 100 != 0 || year % 400 == 0)
 }
 
 // The days of a month: the long ones are odd to July, and even from August on.
+#[tactic(auto, using(crate::proofs::Closed::lengths_are), unfolding(calendar::specs::Calendar::month_length))]
 fn month_length(year: u64, month: u64) -> u64
     requires { (1 ≤ month) × (month ≤ 12) }
     ensures { result ≡ month_length (is_leap year) month }
@@ -61,6 +57,7 @@ fn is_date(d: Date) -> bool
 }
 
 // The days before the year 2000 + y.
+#[tactic(auto, using(crate::proofs::Closed::years_are))]
 fn days_before_year(y: u64) -> u64
     requires { y ≤ 180 }
     ensures { result ≡ days_before_fourth y }
@@ -137,6 +134,7 @@ fn date_after(n: u64) -> Date
 }
 
 // The same day some months on.
+#[tactic(auto, using(crate::proofs::Passing::in_the_year, crate::proofs::Passing::in_the_next))]
 fn months_on(d: Date, months: u64) -> Date
     requires { (1 ≤ d.month) × (d.month ≤ 12) × (d.year ≤ 2179) × (months ≤ 12) }
     ensures { result ≡ months_on months d }
@@ -181,7 +179,7 @@ fn in_two_bytes(n: u64) -> Result<u64, Refusal>
 }
 
 // The day number of a date from 2000 on: 24 if there is no such date, 25 if two bytes don't hold it.
-#[tactic(auto, using(crate::proofs::Passing::late_year))]
+#[tactic(auto, using(crate::proofs::Passing::late_year, calendar::proofs::Existence::no_date, calendar::proofs::Calls::number_is))]
 fn number_of(d: Date) -> Result<u64, Refusal>
     requires { 2000 ≤ d.year }
     ensures { answer_of result ≡ number_of d }
