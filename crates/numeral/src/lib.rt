@@ -14,7 +14,7 @@ pub struct Numeral {
     pub end: usize,
 }
 
-// What a numeral shows at once: that there is none, that it is one digit of 1 to 9, or neither.
+// What a numeral shows at once: that there is none, that it is one digit of 1 to 9, or neither. These are three cases, so no Option says them.
 #[derive(Clone, Copy)]
 pub enum Short {
     Missing,

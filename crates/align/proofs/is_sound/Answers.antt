@@ -8,4 +8,4 @@ returns-then-is_power c =
 
 pub returns-else-is_power : goal.returns-else-is_power
 returns-else-is_power c =
-    rw (sym c.is_power.ensures ∙ c.if-is_power.false)
+    rw (sym c.is_power.ensures ∙ c.if-is_power.false, c.if-is_power.false)
