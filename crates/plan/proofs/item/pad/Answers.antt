@@ -1,10 +1,7 @@
 -- Alignment, then the length.
-use mathlib.Core.Path.{◌≡◌, sym, ap, ◌∙◌}
+use mathlib.Core.Path.{sym, ◌∙◌}
 use native.Mathlib.Omega.{arith}
 use Rattle.std.proofs.lemmas.Result.{err_from_is_err_and}
-use Rattle.definition.specs.Answers.{accepted}
-use Rattle.definition.specs.Refusals.{answer_of}
-use Rattle.definition.specs.States.{padding}
 use Rattle.plan.proofs.Plans.{padding_lt, pad_unaligned, pad_zeros, pad_long}
 use Rattle.plan.proofs.item.pad.Goals as goal
 

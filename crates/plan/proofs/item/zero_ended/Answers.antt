@@ -1,8 +1,6 @@
 -- A text without a zero.
-use mathlib.Core.Path.{◌≡◌, refl, sym, ap, ◌∙◌}
-use mathlib.Core.Bool.{Bool}
+use mathlib.Core.Path.{refl, sym, ap, ◌∙◌}
 use Rattle.std.proofs.lemmas.Result.{err_from_is_err_and}
-use lib.ListN.{take, drop}
 use Rattle.definition.specs.Fields.{has_zero}
 use Rattle.definition.specs.declared.Field.TheVariants as Field
 use Rattle.definition.specs.declared.Refusal.{Refusal}
