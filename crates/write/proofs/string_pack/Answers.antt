@@ -1,6 +1,5 @@
 -- Continued writing from the start state, with the record's length for an answer.
 use Rattle.std.proofs.lemmas.Result.{err_from_is_err_and}
-use Rattle.definition.specs.Answers.{refused, accepted}
 use Rattle.write.proofs.Calls.{plain_call}
 use Rattle.write.proofs.string_pack.Goals as goal
 

@@ -3,9 +3,8 @@ use Rattle.std.proofs.Common.{◌≡◌, sym, ap, ◌∙◌, refl, rules, arith,
 use Rattle.std.proofs.Math.Option.{some}
 use Rattle.std.proofs.lemmas.Result.{err_from_is_err_and}
 use Rattle.definition.specs.Answers.{accepted}
-use Rattle.definition.specs.declared.Op.{Op}
 use Rattle.options.specs.Packed.{table_at}
-use Rattle.format.specs.Steps.{next_at, next_of}
+use Rattle.format.specs.Steps.{next_at}
 use Rattle.write_pass.proofs.Walking.{passing_none, passing_end, passing_refusal, passing_refused, passing_fits, passing_on, item_ahead, item_valid}
 use Rattle.write_pass.proofs.pass.Goals as goal
 use Rattle.write_pass.proofs.pass.Goals.{After-op}
