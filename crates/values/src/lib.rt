@@ -41,6 +41,7 @@ fn number_at(list: &[u8], at: usize, n: usize) -> u64
 }
 
 // Whether a tag is a number's. Asked first, in one comparison, it makes numbers cheap.
+// Tags stay bytes, which are compared and never kept: an enum of them would add an arm of `try_from` that no field comes to.
 fn is_number(tag: u8) -> bool
     ensures { result ≡ numeric tag }
 {

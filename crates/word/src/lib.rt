@@ -108,7 +108,7 @@ fn lua_unsigned(v: Value) -> Result<u64, Refusal>
     }
 }
 
-// T: an integer, or a float modulo 2^64.
+// T: an integer, or a float modulo 2^64. It stays apart from j: one function for both would take a closure with a contract.
 fn size_word(v: Value) -> Result<u64, Refusal>
     requires { Proper v }
     ensures { (l : List ℕ) (n : ℕ) → n ≤ 8 → Says n (fields.word kinds.Size n (meaning l v)) result }
