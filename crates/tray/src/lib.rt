@@ -105,6 +105,7 @@ fn check_tray(
     let mut place = 1;
     let mut total = 0;
     while let Some((from, next)) = list_at(run, at)? {
+        // Not `map_err`: what its closure gave has no name in a proof but Rattle's own, which may change.
         match check_record(table, format, state, &run[from..next], out) {
             Err(refusal) => return Err(refused_at(run, next, refusal, place)),
             Ok(record) => total = sum(total, record.written),
@@ -138,13 +139,11 @@ pub fn pack_tray(format: &[u8], run: &[u8], out: &mut [u8]) -> Result<u64, TrayR
     // Copied once a call: each use of a constant copies it anew.
     let options = table();
     let front = settings(&options, format);
-    let at = front.at;
-    let state = front.state;
-    let rest = &format[at..];
-    let n = check_tray(&options, rest, state, run, out)?;
+    let rest = &format[front.at..];
+    let n = check_tray(&options, rest, front.state, run, out)?;
     if (out.len() as u64) < n {
         return Err(TrayRefusal::from(Refusal::ResultTooLong));
     }
-    put_tray(&options, rest, state, run, out);
+    put_tray(&options, rest, front.state, run, out);
     Ok(n)
 }
