@@ -1,4 +1,5 @@
-// Puts the bytes of an item into the record, where `put` asks for it.
+// Puts the bytes of an item into the record, where `put` asks for it. The flag stands beside the buffer: once an
+// `Option<&mut [u8]>` has been lent on to a call, a proof knows nothing more of what it holds.
 #![tactic(auto)]
 
 ghost use Rattle.std.specs.Prelude.{◌≡◌, true, cond, ◌++◌, ◌+◌, ◌≤◌, length, replicate};

@@ -9,6 +9,7 @@ use definition::Refusal;
 use values::{Value, field_at};
 
 // A text of the list: where it starts, its length, and where the list's next field starts.
+// A place and not the bytes, since a plan is made by functions that don't see the list.
 #[derive(Clone, Copy)]
 pub struct Text {
     pub start: usize,

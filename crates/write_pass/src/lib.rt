@@ -125,6 +125,7 @@ fn totals(p: Progress, base: u64) -> Continued
 }
 
 // Writes a format with a list from a state. With `put`, writing is accepted, and the buffer has room for the record.
+// The flag stands beside the buffer as in emit, since each item lends it on.
 pub fn pass(
     table: &OptionTable,
     format: &[u8],
