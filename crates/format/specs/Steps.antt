@@ -1,8 +1,8 @@
 -- The items of a format one after the other, as the cursor reads them.
 use Rattle.std.specs.Prelude.{ℕ, ◌+◌, List, [], ◌∷◌, length, Some, None}
-use Rattle.std.specs.Prelude as Answer
+use Rattle.std.specs.Prelude as code
 use Rattle.std.proofs.Math.Option.{Option, none, some}
-use Rattle.definition.specs.Answers.{Checked, refused, accepted, ◌>>=◌}
+use Rattle.definition.specs.Answers.{Checked, accepted, ◌>>=◌}
 use Rattle.definition.specs.Options.{Table}
 use Rattle.definition.specs.Items.{item, taken}
 use Rattle.definition.specs.Ops.{op_of}
@@ -24,6 +24,6 @@ next_at t at (b ∷ s) = do
   accepted (some (o, at + 1 + length (taken t b s)))
 
 -- what the cursor's item does, and the place of the cursor after it
-abbrev pub next_of : Answer.Option (Item × Cursor) → Option (Op × ℕ)
+abbrev pub next_of : code.Option (Item × Cursor) → Option (Op × ℕ)
 next_of None = none
 next_of (Some (i, c)) = some (op_at i.entry i.operand, c.at)

@@ -4,14 +4,14 @@ use Rattle.std.specs.List.{AllWithin, HoldsAt}
 use Rattle.std.proofs.lemmas.Iterator.{index_from_first}
 use Prim.Native.Nat.{ℕ, ◌+◌, ◌≤◌, ◌<◌}
 use mathlib.Core.Path.{◌≡◌, refl, sym, ap, ◌∙◌}
-use mathlib.Core.Bool.{Bool, true}
+use mathlib.Core.Bool.{true}
 use mathlib.Core.List.{List, [], ◌∷◌, ◌++◌}
 use native.Mathlib.Numerals.{add-one}
 use native.Mathlib.Omega.{arith}
 use lib.Dec.{ltb, eqb}
 use lib.ListN.{length, take}
 use borrow.Table.Steps.{cases}
-use borrow.Author.Tests.{lt-leb, le-leb, ltb-true, eq-eqb, ne_eqb}
+use borrow.Author.Tests.{lt-leb, le-leb, ltb-true, ne_eqb}
 use Rattle.definition.specs.Answers.{Checked, refused}
 use Rattle.definition.specs.Calls.{string_packsize}
 use Rattle.definition.specs.Program.{first_line, line, printed}

@@ -1,7 +1,7 @@
 // The program's answer to an input, and the line that shows it.
 #![tactic(auto)]
 
-ghost use Rattle.std.specs.Prelude.{◌≡◌, true, length};
+ghost use Rattle.std.specs.Prelude.{◌≡◌, true, Some};
 ghost use Rattle.definition.specs.Program.{first_line, line, printed};
 ghost use Rattle.definition.specs.Refusals.{answer_of};
 ghost use Rattle.line.specs.Lines.{settled, Stands};
@@ -18,10 +18,6 @@ const MAX_FORMAT: usize = 4096;
 pub struct Answer(pub Result<u64, Refusal>);
 
 impl fmt::Display for Answer {
-    ghost use Rattle.std.specs.Prelude.{Some};
-    ghost use Rattle.definition.specs.Program.{line};
-    ghost use Rattle.definition.specs.Refusals.{answer_of};
-
     ghost output = { λ a. Some (line (answer_of a.0)) };
 
     fn fmt<W: fmt::Write>(&self, f: &mut fmt::Formatter<W>) -> fmt::Result {

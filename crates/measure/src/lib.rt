@@ -15,7 +15,8 @@ use definition::{Field, Op, Refusal, State};
 use format::cursor::Cursor;
 use options::{OptionTable, table};
 
-// The state after an alignment and n bytes. Mostly there is nothing to fill up.
+// The state after an alignment and n bytes. Mostly there is nothing to fill up. Each step asks for a sound limit, since a State may have
+// any: writing goes on from whatever state a caller gives, and refuses it by a test.
 fn measure_pad(s: State, natural: u64, n: u64) -> Result<State, Refusal>
     requires limited { Limited s }
     requires positive { 1 ≤ natural }

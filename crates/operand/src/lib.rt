@@ -54,7 +54,8 @@ fn limit(n: u64) -> Result<u64, Refusal>
     Ok(n)
 }
 
-// The operand of an option with the numeral n.
+// The operand of an option with the numeral n. The bounds on the entry stand at three functions: a type that held them would be made for
+// these alone.
 fn with_numeral(e: u8, n: u64) -> Result<u64, Refusal>
     requires low { 192 ≤ e }
     requires high { e < 248 }

@@ -1,8 +1,7 @@
 -- Behind X an option with a numeral is asked for its own operand, with one byte less to look at.
-use Rattle.std.proofs.Common.{◌≡◌, ℕ, ◌-◌, length, drop, length-take, sym, ap, ◌∙◌, length-drop, arith}
-use Rattle.definition.specs.Answers.{Checked}
+use Rattle.std.proofs.Common.{◌-◌, length, drop, length-take, sym, ap, ◌∙◌, arith}
 use Rattle.std.proofs.lemmas.Result.{err_from_is_err_and}
-use Rattle.operand.specs.Operands.{operand_at, natural_at, one_more, pair_of}
+use Rattle.operand.specs.Operands.{operand_at, one_more}
 use Rattle.options.specs.Packed.{entry_at, table_at}
 use Rattle.operand.proofs.Operands.{operand_none, operand_x, operand_count}
 use Rattle.numeral.proofs.Digits.{part_rest}

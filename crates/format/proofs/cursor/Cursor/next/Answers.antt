@@ -1,5 +1,5 @@
 -- The byte has its entry, and what follows it its operand.
-use Rattle.std.proofs.Common.{◌+◌, sym, length-drop, drop, arith}
+use Rattle.std.proofs.Common.{◌+◌, sym, length-drop, arith}
 use Rattle.std.proofs.lemmas.Result.{err_from_is_err_and}
 use Rattle.format.proofs.Cursors.{next_end, next_step}
 use Rattle.operand.proofs.Operands.{operand_count}
