@@ -13,14 +13,10 @@ pub fn is_start(v: Vector) -> bool {
 
 // The zeros before what has a natural alignment, at a limit that a state can have and a length, or 6.
 pub fn is_padding(v: Vector) -> bool {
-    if !align::is_power(v.b) {
-        return false;
-    }
-    if v.size == 0 {
-        return false;
-    }
     let expected = v.expected(v.c).ok_or(Refusal::AlignmentNoPower);
-    align::padding(state(false, v.b, v.a), v.size as u64) == expected
+    align::is_power(v.b)
+        && v.size > 0
+        && align::padding(state(false, v.b, v.a), v.size as u64) == expected
 }
 
 // The sum of two lengths, or 9.

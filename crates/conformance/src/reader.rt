@@ -121,7 +121,8 @@ fn times(text: &[u8]) -> (u64, &[u8])
     }
 }
 
-// Puts bytes into a buffer behind the first n, as far as there is room; how many there are then.
+// Puts bytes into a buffer behind the first n, as far as there is room; how many there are then. Buffers have a fixed size, so a
+// number says how much of one is filled, until `bytes` gives that part out.
 pub fn put(out: &mut [u8], mut n: usize, bytes: &[u8]) -> usize {
     for b in bytes {
         if n < out.len() {

@@ -85,7 +85,8 @@ fn edge(i: u64) -> i64 {
     EDGES[(i % 16) as usize]
 }
 
-// Prints the digest of n answers, each taken in by a step from the digest so far and the answer's place.
+// Prints the digest of n answers, each taken in by a step from the digest so far and the answer's place. A closure that gave the
+// answer would name its length in its bound, which the borrow check does not cover.
 fn print_digest<F: Fn(u64, u64) -> u64>(rt: &impl Print, n: u64, step: F) -> io::Result<()>
     requires { F.IsAlwaysCallable step }
 {

@@ -158,7 +158,7 @@ pub extern "C" fn digribbon_unpack(
     tell(unpacked.map(unpacked_words), answer)
 }
 
-// A tray, with the place of the record that is refused.
+// A tray, with the place of the record that is refused: two arms, since the place is told in both.
 #[unsafe(no_mangle)]
 pub extern "C" fn digribbon_pack_tray(
     format: &[u8],
