@@ -30,10 +30,10 @@ pub fn is_float_field(v: Vector, data: &[u8]) -> bool {
 
 // An integer, or that it doesn't fit 64 bits.
 pub fn is_read(v: Vector, data: &[u8]) -> bool {
-    v.size <= data.len() && get_signed(data, 0, v.size, v.big).map(to_word) == v.expected(v.a)
+    v.size <= data.len() && get_signed(&data[..v.size], v.big).map(to_word) == v.expected(v.a)
 }
 
 // An integer that is not negative, or that it doesn't fit 64 bits.
 pub fn is_word_read(v: Vector, data: &[u8]) -> bool {
-    v.size <= data.len() && get_unsigned(data, 0, v.size, v.big) == v.expected(v.a)
+    v.size <= data.len() && get_unsigned(&data[..v.size], v.big) == v.expected(v.a)
 }

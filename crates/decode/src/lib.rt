@@ -39,7 +39,8 @@ fn signed(data: &[u8], at: Offset, big: bool, size: u64) -> Result<Decoded, Refu
     requires { at.0 + size ≤ length «data».now }
     ensures { Decodes «data».now at big (field.Number kind.Signed size) result }
 {
-    let z = get_signed(data, at.0 as usize, size as usize, big).ok_or(Refusal::IntegerTooWide)?;
+    let bytes = &data[at.0 as usize..(at.0 + size) as usize];
+    let z = get_signed(bytes, big).ok_or(Refusal::IntegerTooWide)?;
     Ok(Decoded {
         reading: Reading::Integer(z),
         size,
@@ -51,9 +52,8 @@ fn unsigned(data: &[u8], at: Offset, big: bool, size: u64) -> Result<Decoded, Re
     requires { at.0 + size ≤ length «data».now }
     ensures { Decodes «data».now at big (field.Number kind.Unsigned size) result }
 {
-    let word = get_unsigned(data, at.0 as usize, size as usize, big).ok_or(
-        Refusal::IntegerTooWide,
-    )?;
+    let bytes = &data[at.0 as usize..(at.0 + size) as usize];
+    let word = get_unsigned(bytes, big).ok_or(Refusal::IntegerTooWide)?;
     Ok(Decoded {
         reading: Reading::Integer(to_signed(word)),
         size,
@@ -65,7 +65,7 @@ fn single(data: &[u8], at: Offset, big: bool) -> Decoded
     requires { at.0 + 4 ≤ length «data».now }
     ensures { Decodes «data».now at big (field.Number kind.Single 4) (Ok result) }
 {
-    let word = get_word(data, at.0 as usize, 4, big);
+    let word = get_word(&data[at.0 as usize..(at.0 + 4) as usize], big);
     Decoded {
         reading: Reading::Float(from_single(word as u32)),
         size: 4,
@@ -77,7 +77,7 @@ fn double(data: &[u8], at: Offset, big: bool) -> Decoded
     requires { at.0 + 8 ≤ length «data».now }
     ensures { Decodes «data».now at big (field.Number kind.Double 8) (Ok result) }
 {
-    let word = get_word(data, at.0 as usize, 8, big);
+    let word = get_word(&data[at.0 as usize..(at.0 + 8) as usize], big);
     Decoded {
         reading: Reading::Float(word),
         size: 8,
@@ -150,7 +150,8 @@ pub fn counted(data: &[u8], at: Offset, big: bool, size: u64) -> Result<Decoded,
     if left(data.len(), at) < size {
         return Err(Refusal::DataEnd);
     }
-    let n = get_unsigned(data, at.0 as usize, size as usize, big).ok_or(Refusal::IntegerTooWide)?;
+    let bytes = &data[at.0 as usize..(at.0 + size) as usize];
+    let n = get_unsigned(bytes, big).ok_or(Refusal::IntegerTooWide)?;
     let x = text(data, further(at, size), n)?;
     Ok(Decoded {
         reading: x.reading,

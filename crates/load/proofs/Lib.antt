@@ -1,1 +1,2 @@
 pub mod Gathering
+pub mod Parts

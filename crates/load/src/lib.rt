@@ -1,7 +1,7 @@
 // Reads integers of data.
 #![tactic(auto)]
 
-ghost use Rattle.std.specs.Prelude.{◌≡◌, ◌+◌, ◌^◌, ◌<◌, ◌≤◌, length, drop};
+ghost use Rattle.std.specs.Prelude.{◌≡◌, ◌^◌, ◌<◌, length};
 ghost use Rattle.definition.specs.Bytes.{total, signed, low};
 ghost use Rattle.definition.specs.Fields.{all};
 ghost use Rattle.words.specs.Digits.{low_bytes, high_bytes};
@@ -16,36 +16,36 @@ fn low(size: usize) -> usize
     size.min(8)
 }
 
-// The number that the low bytes write, byte by byte.
-fn get_bytes(data: &[u8], at: usize, size: usize, big: bool) -> u64
-    requires { at + size ≤ length «data».now }
-    ensures { (result ≡ total (low_bytes big size (drop at «data».now))) × (result < 256 ^ low size) }
+// The number that the low bytes write, byte by byte. The size is given beside the bytes, so that a constant reaches the loop.
+fn get_bytes(bytes: &[u8], size: usize, big: bool) -> u64
+    requires { size ≡ length bytes.now }
+    ensures { (result ≡ total (low_bytes big (length bytes.now) bytes.now)) × (result < 256 ^ low (length bytes.now)) }
 {
     let mut word: u64 = 0;
     for k in 0..low(size) {
-        let b = data[at + place(big, size, k)];
+        let b = bytes[place(big, size, k)];
         word += u64::from(b) << (8 * k);
     }
     word
 }
 
-// The number that the low bytes write: of size bytes, the lowest eight. Where the size is a constant, the loop of
+// The number that the low bytes write: of all the bytes, the lowest eight. Where their count is a constant, the loop of
 // `get_bytes` becomes one load. One match on the four sizes would become a jump table, which costs more.
-pub fn get_word(data: &[u8], at: usize, size: usize, big: bool) -> u64
-    requires { at + size ≤ length «data».now }
-    ensures { (result ≡ total (low_bytes big size (drop at «data».now))) × (result < 256 ^ low size) }
+pub fn get_word(bytes: &[u8], big: bool) -> u64
+    ensures { (result ≡ total (low_bytes big (length bytes.now) bytes.now)) × (result < 256 ^ low (length bytes.now)) }
 {
+    let size = bytes.len();
     if size < 3 {
         match size {
-            1 => get_bytes(data, at, 1, big),
-            2 => get_bytes(data, at, 2, big),
-            _ => get_bytes(data, at, size, big),
+            1 => get_bytes(bytes, 1, big),
+            2 => get_bytes(bytes, 2, big),
+            _ => get_bytes(bytes, size, big),
         }
     } else {
         match size {
-            4 => get_bytes(data, at, 4, big),
-            8 => get_bytes(data, at, 8, big),
-            _ => get_bytes(data, at, size, big),
+            4 => get_bytes(bytes, 4, big),
+            8 => get_bytes(bytes, 8, big),
+            _ => get_bytes(bytes, size, big),
         }
     }
 }
@@ -66,32 +66,30 @@ fn restored(size: usize, word: u64) -> i64
 }
 
 // Whether each byte above the lowest eight is the fill.
-fn is_filled(data: &[u8], at: usize, size: usize, big: bool, fill: u8) -> bool
-    requires { at + size ≤ length «data».now }
-    ensures { result ≡ all fill (high_bytes big size (drop at «data».now)) }
+fn is_filled(bytes: &[u8], big: bool, fill: u8) -> bool
+    ensures { result ≡ all fill (high_bytes big (length bytes.now) bytes.now) }
 {
-    (8..size).all(|k| data[at + place(big, size, k)] == fill)
+    let size = bytes.len();
+    (8..size).all(|k| bytes[place(big, size, k)] == fill)
 }
 
-// An integer of size bytes that is not negative; none where it doesn't fit 64 bits.
-pub fn get_unsigned(data: &[u8], at: usize, size: usize, big: bool) -> Option<u64>
-    requires { at + size ≤ length «data».now }
-    ensures { unsigned_of result ≡ unsigned_at big size (drop at «data».now) }
+// An integer that is not negative; none where it doesn't fit 64 bits.
+pub fn get_unsigned(bytes: &[u8], big: bool) -> Option<u64>
+    ensures { unsigned_of result ≡ unsigned_at big (length bytes.now) bytes.now }
 {
-    if is_filled(data, at, size, big, 0) {
-        Some(get_word(data, at, size, big))
+    if is_filled(bytes, big, 0) {
+        Some(get_word(bytes, big))
     } else {
         None
     }
 }
 
-// An integer of size bytes; none where it doesn't fit 64 bits.
-pub fn get_signed(data: &[u8], at: usize, size: usize, big: bool) -> Option<i64>
-    requires { at + size ≤ length «data».now }
-    ensures { signed_of result ≡ signed_at big size (drop at «data».now) }
+// An integer; none where it doesn't fit 64 bits.
+pub fn get_signed(bytes: &[u8], big: bool) -> Option<i64>
+    ensures { signed_of result ≡ signed_at big (length bytes.now) bytes.now }
 {
-    let x = restored(size, get_word(data, at, size, big));
-    if is_filled(data, at, size, big, sign_byte(x)) {
+    let x = restored(bytes.len(), get_word(bytes, big));
+    if is_filled(bytes, big, sign_byte(x)) {
         Some(x)
     } else {
         None

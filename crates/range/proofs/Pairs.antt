@@ -22,12 +22,14 @@ pub record Pair (p : List ℕ) (at a b : ℕ) : Type 0 where
   pub there : leb 4 (length (drop at p)) ≡ true
   pub least : big_total (take 2 (drop at p)) ≡ a
   pub greatest : big_total (take 2 (drop 2 (drop at p))) ≡ b
+  pub below : b < 65536
 
 pub pair : (p : List ℕ) (at a b : ℕ) → at + 4 ≤ length p → Loaded p at 2 a → Loaded p (at + 2) 2 b → Pair p at a b
 pair p at a b h x y = record {
   there = le-leb 4 (length (drop at p)) (omega (arith, h, length-drop at p));
   least = sym x.is;
   greatest = ap (λ (q : List ℕ). big_total (take 2 q)) (drop-drop 2 at p) ∙ sym y.is;
+  below = y.below;
 }
 
 module _ {p : List ℕ} {at a b : ℕ} (q : Pair p at a b) (k : ℕ) (holds : ℕ → Bool) where

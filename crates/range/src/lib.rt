@@ -44,8 +44,8 @@ fn text_extents(pairs: &[u8], at: usize, beside: u64, most: u64) -> Result<(Rang
     if pairs.len() - at < PAIR {
         return Err(Refusal::NoValueLeft);
     }
-    let least = get_word(pairs, at, LENGTH, true);
-    let greatest = get_word(pairs, at + LENGTH, LENGTH, true);
+    let least = get_word(&pairs[at..at + LENGTH], true);
+    let greatest = get_word(&pairs[at + LENGTH..at + PAIR], true);
     if greatest < least {
         return Err(Refusal::LeastAboveGreatest);
     }

@@ -24,7 +24,7 @@ pub fn list_at(run: &[u8], at: usize) -> Result<Option<(usize, usize)>, Refusal>
     if left < LENGTH {
         return Err(Refusal::DamagedRun);
     }
-    let n = get_word(run, at, LENGTH, true) as usize;
+    let n = get_word(&run[at..at + LENGTH], true) as usize;
     if left - LENGTH < n {
         return Err(Refusal::DamagedRun);
     }

@@ -9,10 +9,13 @@ use lib.Seq.{take_all}
 use Rattle.definition.specs.Bytes.{total, low}
 use Rattle.laws.proofs.Bytes.{length_part}
 use Rattle.words.specs.Digits.{low_bytes}
+use Rattle.load.proofs.Parts.{word_part}
 use Rattle.values.specs.Loading.{Loaded}
 
-pub loaded : (l : List ℕ) (at n r : ℕ) → n ≤ 8 → at + n ≤ length l → (r ≡ total (low_bytes true n (drop at l))) × (r < 256 ^ low n) → Loaded l at n r
-loaded l at n r h k w =
+-- of the part of m bytes, which are n
+pub loaded : (l : List ℕ) (at n m r : ℕ) → n ≤ 8 → at + n ≤ length l → m ≡ n → (r ≡ total (low_bytes true (length (take m (drop at l))) (take m (drop at l)))) × (r < 256 ^ low (length (take m (drop at l)))) → Loaded l at n r
+loaded l at n m r h k e v =
+    let w = word_part true n at m l e k v in
     let s : List ℕ = reverse (take n (drop at l)) in
     let q : low n ≡ n = omega arith in
     record {

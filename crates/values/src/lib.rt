@@ -37,7 +37,7 @@ fn number_at(list: &[u8], at: usize, n: usize) -> u64
     requires { (n ≤ 8) × (at + n ≤ length list.now) }
     ensures { Loaded list.now at n result }
 {
-    get_word(list, at, n, true)
+    get_word(&list[at..at + n], true)
 }
 
 // Whether a tag is a number's. Asked first, in one comparison, it makes numbers cheap.

@@ -13,10 +13,10 @@ returns-then-left-lt-LENGTH c = at_short c.args.run.now c.args.at (omega arith) 
 
 pub returns-then-left-n : goal.returns-then-left-n
 returns-then-left-n c =
-    let announced = loaded c.args.run.now c.args.at 2 _ (lit≤ tt) (omega arith) c.get_word-n.ensures in
+    let announced = loaded c.args.run.now c.args.at 2 _ _ (lit≤ tt) (omega arith) (omega arith) c.get_word-n.ensures in
     at_short c.args.run.now c.args.at (omega arith) (omega (arith, announced.is))
 
 pub returns : goal.returns
 returns c =
-    let announced = loaded c.args.run.now c.args.at 2 _ (lit≤ tt) (omega arith) c.get_word-n.ensures in
+    let announced = loaded c.args.run.now c.args.at 2 _ _ (lit≤ tt) (omega arith) (omega arith) c.get_word-n.ensures in
     stands c.args.run.now c.args.at _ announced.is (omega arith)
