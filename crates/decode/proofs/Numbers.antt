@@ -1,18 +1,18 @@
 -- What a number reads is what the definition decodes.
-use Prim.Native.Nat.{ℕ, ◌+◌, ◌-◌, ◌≤◌, ◌<◌}
+use Prim.Native.Nat.{ℕ, ◌+◌, ◌-◌, ◌^◌, ◌≤◌, ◌<◌}
 use native.Mathlib.Omega.{arith}
 use mathlib.Core.Path.{◌≡◌, refl, sym, ap, ◌∙◌}
 use mathlib.Core.Bool.{Bool}
 use mathlib.Core.Logic.{◌⊎◌, inl, inr}
 use mathlib.Core.List.{List}
 use lib.IntN.{ℤ}
-use lib.ListN.{length, drop, length-drop}
+use lib.ListN.{length, take, drop, length-drop}
 use borrow.Author.Tests.{lt-leb}
 use Rattle.std.specs.Prelude.{Option, Some, None, Result, Ok, Err}
 use Rattle.std.specs.Option.{ok_or}
 use Rattle.single.specs.Single.{from_single}
 use Rattle.definition.specs.Answers.{Checked, refused, accepted, ◌>>=◌}
-use Rattle.definition.specs.Bytes.{total, signed}
+use Rattle.definition.specs.Bytes.{total, signed, low}
 use Rattle.definition.specs.Values.{Value, integer, float}
 use Rattle.definition.specs.Fields.{first, number, unsigned, value_by, decode}
 use Rattle.definition.specs.declared.Kind.{Kind}
@@ -23,6 +23,7 @@ use Rattle.definition.specs.declared.Refusal.{Refusal}
 use Rattle.definition.specs.Refusals.{refusal_number}
 use Rattle.words.specs.Digits.{low_bytes}
 use Rattle.load.specs.Numbers.{unsigned_at, signed_at}
+use Rattle.load.proofs.Parts.{word_part, unsigned_part, signed_part}
 use Rattle.laws.proofs.Bytes.{number_is}
 use Rattle.decode.specs.Readings.{from, value_of, Inside, Decodes}
 use Rattle.decode.specs.declared.Reading.{Reading}
@@ -70,30 +71,35 @@ module _ (d : List ℕ) (at : Offset) (o : Bool) (n : ℕ) where
       → value_of d r ≡ v → Inside d r → Decodes d at o (Field.Number k n) (Ok (record { reading = r; size = n }))
   number_read k v r h e f i = record { says = rw (decode_number o k n (from d at), ← e, f); inside = (i, h) }
 
-  pub signed_wide : refused 18 ≡ signed_at o n (from d at) → Decodes d at o (Field.Number Signed n) (Err Refusal.IntegerTooWide)
-  signed_wide e = number_refused Signed e
+  -- the part of the data that is read: its m bytes are the n
+  module _ {m : ℕ} (p : m ≡ n) (h : at.0 + n ≤ length d) where
+    abbrev part : List ℕ
+    part = take m (from d at)
 
-  pub signed_read : {y z : ℤ} → y ≡ z → at.0 + n ≤ length d → accepted (integer z) ≡ signed_at o n (from d at)
-      → Decodes d at o (Field.Number Signed n) (Ok (record { reading = Integer y; size = n }))
-  signed_read q h e = number_read Signed _ (Integer _) h e (ap integer q) tt
+    pub signed_wide : refused 18 ≡ signed_at o (length part) part → Decodes d at o (Field.Number Signed n) (Err Refusal.IntegerTooWide)
+    signed_wide e = number_refused Signed (e ∙ signed_part o n at.0 m d p h)
 
-  unsigned_value_lem : as_integer (unsigned_at o n (from d at)) ≡ number_at o Unsigned n (from d at)
-  unsigned_value_lem = bind_bind (number o n (from d at)) (λ r. unsigned r.0 r.1) (λ w. accepted (integer (signed 8 w)))
+    pub signed_read : {y z : ℤ} → y ≡ z → accepted (integer z) ≡ signed_at o (length part) part → Decodes d at o (Field.Number Signed n) (Ok (record { reading = Integer y; size = n }))
+    signed_read q e = number_read Signed _ (Integer _) h (e ∙ signed_part o n at.0 m d p h) (ap integer q) tt
 
-  pub unsigned_wide : refused 18 ≡ unsigned_at o n (from d at) → Decodes d at o (Field.Number Unsigned n) (Err Refusal.IntegerTooWide)
-  unsigned_wide e = number_refused Unsigned (ap as_integer e ∙ unsigned_value_lem)
+    unsigned_value_lem : as_integer (unsigned_at o (length part) part) ≡ number_at o Unsigned n (from d at)
+    unsigned_value_lem =
+        ap as_integer (unsigned_part o n at.0 m d p h)
+        ∙ bind_bind (number o n (from d at)) (λ r. unsigned r.0 r.1) (λ w. accepted (integer (signed 8 w)))
 
-  pub unsigned_read : {y : ℤ} (w : ℕ) → y ≡ signed 8 w → at.0 + n ≤ length d → accepted w ≡ unsigned_at o n (from d at)
-      → Decodes d at o (Field.Number Unsigned n) (Ok (record { reading = Integer y; size = n }))
-  unsigned_read w q h e = number_read Unsigned (integer (signed 8 w)) (Integer _) h (ap as_integer e ∙ unsigned_value_lem) (ap integer q) tt
+    pub unsigned_wide : refused 18 ≡ unsigned_at o (length part) part → Decodes d at o (Field.Number Unsigned n) (Err Refusal.IntegerTooWide)
+    unsigned_wide e = number_refused Unsigned (ap as_integer e ∙ unsigned_value_lem)
 
-  pub single_read : {b u : ℕ} → b ≡ from_single u → u ≡ total (low_bytes o n (from d at)) → at.0 + n ≤ length d
-      → Decodes d at o (Field.Number Single n) (Ok (record { reading = Float b; size = n }))
-  single_read {b} {u} q e h = number_read Single (float (from_single u)) (Float b) h (rw (number_is o n at.0 d h, e)) (rw q) tt
+    pub unsigned_read : {y : ℤ} (w : ℕ) → y ≡ signed 8 w → accepted w ≡ unsigned_at o (length part) part → Decodes d at o (Field.Number Unsigned n) (Ok (record { reading = Integer y; size = n }))
+    unsigned_read w q e = number_read Unsigned (integer (signed 8 w)) (Integer _) h (ap as_integer e ∙ unsigned_value_lem) (ap integer q) tt
 
-  pub double_read : {b : ℕ} → b ≡ total (low_bytes o n (from d at)) → at.0 + n ≤ length d
-      → Decodes d at o (Field.Number Double n) (Ok (record { reading = Float b; size = n }))
-  double_read {b} e h = number_read Double (float b) (Float b) h (rw (number_is o n at.0 d h, e)) refl tt
+    -- u is the word that is loaded of it
+    module _ {u : ℕ} (w : (u ≡ total (low_bytes o (length part) part)) × (u < 256 ^ low (length part))) where
+      pub single_read : {b : ℕ} → b ≡ from_single u → Decodes d at o (Field.Number Single n) (Ok (record { reading = Float b; size = n }))
+      single_read {b} q = number_read Single (float (from_single u)) (Float b) h (rw (number_is o n at.0 d h, (word_part o n at.0 m d p h w).0)) (rw q) tt
+
+      pub double_read : Decodes d at o (Field.Number Double n) (Ok (record { reading = Float u; size = n }))
+      double_read = number_read Double (float u) (Float u) h (rw (number_is o n at.0 d h, (word_part o n at.0 m d p h w).0)) refl tt
 
 -- ---- by the kind
 

@@ -18,6 +18,7 @@ use Rattle.definition.specs.declared.Offset.{Offset}
 use Rattle.definition.specs.declared.Refusal.{Refusal}
 use Rattle.definition.specs.declared.Field.TheVariants as Field
 use Rattle.load.specs.Numbers.{unsigned_at}
+use Rattle.load.proofs.Parts.{unsigned_part}
 use Rattle.decode.specs.Readings.{from, Decodes}
 use Rattle.decode.specs.declared.Reading.TheVariants.{Text}
 use Rattle.decode.specs.declared.Decoded.{Decoded}
@@ -135,21 +136,28 @@ module _ (d : List ℕ) (at : Offset) (o : Bool) (n : ℕ) where
   unfolding decode number
   counted_short h = record { says = rw (first_short n at.0 d h); inside = tt }
 
-  decode_counted : decode o (Field.Counted n) (from d at) ≡ (unsigned_at o n (from d at) >>= λ k. counting (n + k) (first k (drop n (from d at))))
-  unfolding decode
-  decode_counted = sym (bind_bind (number o n (from d at)) (λ r. unsigned r.0 r.1) (λ k. counting (n + k) (first k (drop n (from d at)))))
+  -- the part of the data that is read: its m bytes are the n
+  module _ {m : ℕ} (p : m ≡ n) (h : at.0 + n ≤ length d) where
+    abbrev part : List ℕ
+    part = take m (from d at)
 
-  pub counted_wide : refused 18 ≡ unsigned_at o n (from d at) → Decodes d at o (Field.Counted n) (Err Refusal.IntegerTooWide)
-  counted_wide e = record { says = rw (decode_counted, ← e); inside = tt }
-
-  -- the text stands at the offset t
-  module _ {k : ℕ} (e : accepted k ≡ unsigned_at o n (from d at)) {t : Offset} (q : t.0 ≡ at.0 + n) where
-    behind : more n (decode o (Field.Chars k) (from d t)) ≡ decode o (Field.Counted n) (from d at)
+    decode_counted : decode o (Field.Counted n) (from d at) ≡ (unsigned_at o (length part) part >>= λ k. counting (n + k) (first k (drop n (from d at))))
     unfolding decode
-    behind = rw (decode_counted, ← e, q, drop-drop n at.0 d) (sym (counting_more n k (first k (drop (at.0 + n) d))))
+    decode_counted =
+        sym (ap (λ (c : Checked ℕ). c >>= λ k. counting (n + k) (first k (drop n (from d at)))) (unsigned_part o n at.0 m d p h)
+        ∙ bind_bind (number o n (from d at)) (λ r. unsigned r.0 r.1) (λ k. counting (n + k) (first k (drop n (from d at)))))
 
-    pub counted_refused : {r : Refusal} → Decodes d t o (Field.Chars k) (Err r) → Decodes d at o (Field.Counted n) (Err r)
-    counted_refused p = record { says = ap (more n) p.says ∙ behind; inside = tt }
+    pub counted_wide : refused 18 ≡ unsigned_at o (length part) part → Decodes d at o (Field.Counted n) (Err Refusal.IntegerTooWide)
+    counted_wide e = record { says = rw (decode_counted, ← e); inside = tt }
 
-    pub counted_read : {x : Decoded} → Decodes d t o (Field.Chars k) (Ok x) → Decodes d at o (Field.Counted n) (Ok (record { reading = x.reading; size = n + x.size }))
-    counted_read p = record { says = ap (more n) p.says ∙ behind; inside = (p.inside.0, omega (arith, p.inside.1)) }
+    -- the text stands at the offset t
+    module _ {k : ℕ} (e : accepted k ≡ unsigned_at o (length part) part) {t : Offset} (q : t.0 ≡ at.0 + n) where
+      behind : more n (decode o (Field.Chars k) (from d t)) ≡ decode o (Field.Counted n) (from d at)
+      unfolding decode
+      behind = rw (decode_counted, ← e, q, drop-drop n at.0 d) (sym (counting_more n k (first k (drop (at.0 + n) d))))
+
+      pub counted_refused : {r : Refusal} → Decodes d t o (Field.Chars k) (Err r) → Decodes d at o (Field.Counted n) (Err r)
+      counted_refused s = record { says = ap (more n) s.says ∙ behind; inside = tt }
+
+      pub counted_read : {x : Decoded} → Decodes d t o (Field.Chars k) (Ok x) → Decodes d at o (Field.Counted n) (Ok (record { reading = x.reading; size = n + x.size }))
+      counted_read s = record { says = ap (more n) s.says ∙ behind; inside = (s.inside.0, omega (arith, s.inside.1)) }

@@ -1,8 +1,7 @@
 -- `double` meets its contract: the 64 bits of the eight bytes.
 use native.Mathlib.Omega.{arith}
-use Rattle.load.proofs.Parts.{word_part}
 use Rattle.decode.proofs.Numbers.{double_read}
 use Rattle.decode.proofs.double.Goals as goal
 
 pub returns : goal.returns
-returns c = double_read _ _ _ 8 (word_part _ 8 c.args.at.0 _ _ (omega arith) c.requires c.get_word-word.ensures).0 c.requires
+returns c = double_read _ _ _ 8 (omega arith) c.requires c.get_word-word.ensures
