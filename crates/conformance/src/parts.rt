@@ -11,7 +11,10 @@ pub fn front(s: &[u8], n: usize) -> &[u8] {
 
 // Whether each byte behind the first n is the one that a result buffer has before a call.
 pub fn is_unchanged(s: &[u8], n: usize) -> bool {
-    s.iter().skip(n).all(|b| *b == FILL)
+    match s.get(n..) {
+        Some(behind) => behind.iter().all(|b| *b == FILL),
+        None => true,
+    }
 }
 
 // The number that bytes write, the highest first, by its lowest 64 bits.
