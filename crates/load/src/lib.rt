@@ -71,7 +71,8 @@ fn is_filled(bytes: &[u8], big: bool, fill: u8) -> bool
     ensures { result ≡ all fill (high_bytes big (length bytes.now) bytes.now) }
 {
     let size = bytes.len();
-    (8..size).all(|k| bytes[place(big, size, k)] == fill)
+    // Up to eight bytes there is none, and no walk to set up.
+    size <= 8 || (8..size).all(|k| bytes[place(big, size, k)] == fill)
 }
 
 // An integer that is not negative; none where it doesn't fit 64 bits.

@@ -5,8 +5,8 @@ use Rattle.words.specs.Digits.{place_of}
 use Rattle.load.proofs.Gathering.{filled}
 use Rattle.load.proofs.is_filled.Goals as goal
 
-pub returns : goal.returns
-returns c =
+pub returns-else-size-le8 : goal.returns-else-size-le8
+returns-else-size-le8 c =
     let a = c.args in
     let n = length a.bytes.now in
     filled a.big a.bytes.now a.fill c.all.result
