@@ -35,46 +35,15 @@ impl From<Refusal> for TrayRefusal {
     }
 }
 
-// ---- a record
-
-// Every check of a record by itself, from a state, and its length.
-fn check_record(
-    table: &OptionTable,
-    format: &[u8],
+// What every record of a tray is laid out by: the option table, what follows the settings at the format's front, and the state there.
+#[derive(Clone, Copy)]
+struct Packing<'a> {
+    table: &'a OptionTable,
+    format: &'a [u8],
     state: State,
-    list: &[u8],
-    out: &mut [u8],
-) -> Result<Continued, Refusal>
-    requires table { table_at table.now.entries ≡ options }
-    requires sound { Sound state }
-    ensures total { answer_of result ≡ summed (pack state format.now list.now) }
-    ensures bytes { out.new ≡ out.old }
-{
-    if !is_list(list) {
-        return Err(Refusal::Malformed);
-    }
-    pass(table, format, list, state, out, false)
+    ghost is_options: { table_at table.now.entries ≡ options },
+    ghost sound: { Sound state },
 }
-
-// Puts a record that is accepted at the buffer's front, and says its length.
-fn put_record(
-    table: &OptionTable,
-    format: &[u8],
-    state: State,
-    list: &[u8],
-    out: &mut [u8],
-) -> usize
-    requires table { table_at table.now.entries ≡ options }
-    requires sound { Sound state }
-    requires room { RecordFits state format.now list.now (length out.old) }
-    ensures length { result ≡ length (bytes_from state format.now list.now) }
-    ensures bytes { out.new ≡ bytes_from state format.now list.now ++ drop result out.old }
-{
-    let record = pass(table, format, list, state, out, true).unwrap();
-    record.written as usize
-}
-
-// ---- the two walks over a run, each record from a state
 
 // A record's refusal with its place, unless the rest of the run is damaged.
 fn refused_at(run: &[u8], next: usize, refusal: Refusal, place: u64) -> TrayRefusal
@@ -88,46 +57,59 @@ fn refused_at(run: &[u8], next: usize, refusal: Refusal, place: u64) -> TrayRefu
     }
 }
 
-// Every check, and the tray's length. After a refusal the walk goes on over the lengths alone, since 23 comes before it.
-fn check_tray(
-    table: &OptionTable,
-    format: &[u8],
-    state: State,
-    run: &[u8],
-    out: &mut [u8],
-) -> Result<u64, TrayRefusal>
-    requires table { table_at table.now.entries ≡ options }
-    requires sound { Sound state }
-    ensures tray { Told (tray_from state format.now run.now) result }
-    ensures bytes { out.new ≡ out.old }
-{
-    let mut at = 0;
-    let mut place = 1;
-    let mut total = 0;
-    while let Some((from, next)) = list_at(run, at)? {
-        // Not `map_err`: what its closure gave has no name in a proof but Rattle's own, which may change.
-        match check_record(table, format, state, &run[from..next], out) {
-            Err(refusal) => return Err(refused_at(run, next, refusal, place)),
-            Ok(record) => total = sum(total, record.written),
+impl Packing<'_> {
+    // Every check of a record by itself, and its length.
+    fn check_record(&self, list: &[u8], out: &mut [u8]) -> Result<Continued, Refusal>
+        ensures total { answer_of result ≡ summed (pack self.now.state self.now.format.now list.now) }
+        ensures bytes { out.new ≡ out.old }
+    {
+        if !is_list(list) {
+            return Err(Refusal::Malformed);
         }
-        place += 1;
-        at = next;
+        pass(self.table, self.format, list, self.state, out, false)
     }
-    Ok(total)
-}
 
-// Puts the records of a tray that is accepted, one behind the other.
-fn put_tray(table: &OptionTable, format: &[u8], state: State, run: &[u8], out: &mut [u8])
-    requires table { table_at table.now.entries ≡ options }
-    requires sound { Sound state }
-    requires room { Fits (tray_from state format.now run.now) (length out.old) }
-    ensures { out.new ≡ put_in out.old (tray_from state format.now run.now).answer }
-{
-    let mut at = 0;
-    let mut end = 0;
-    while let Some((from, next)) = list_at(run, at).unwrap() {
-        end += put_record(table, format, state, &run[from..next], &mut out[end..]);
-        at = next;
+    // Puts a record that is accepted at the buffer's front, and says its length.
+    fn put_record(&self, list: &[u8], out: &mut [u8]) -> usize
+        requires { RecordFits self.now.state self.now.format.now list.now (length out.old) }
+        ensures length { result ≡ length (bytes_from self.now.state self.now.format.now list.now) }
+        ensures bytes { out.new ≡ bytes_from self.now.state self.now.format.now list.now ++ drop result out.old }
+    {
+        let record = pass(self.table, self.format, list, self.state, out, true).unwrap();
+        record.written as usize
+    }
+
+    // Every check, and the tray's length. After a refusal the walk goes on over the lengths alone, since 23 comes before it.
+    fn check_tray(&self, run: &[u8], out: &mut [u8]) -> Result<u64, TrayRefusal>
+        ensures tray { Told (tray_from self.now.state self.now.format.now run.now) result }
+        ensures bytes { out.new ≡ out.old }
+    {
+        let mut at = 0;
+        let mut place = 1;
+        let mut total = 0;
+        while let Some((from, next)) = list_at(run, at)? {
+            // Not `map_err`: what its closure gave has no name in a proof but Rattle's own, which may change.
+            match self.check_record(&run[from..next], out) {
+                Err(refusal) => return Err(refused_at(run, next, refusal, place)),
+                Ok(record) => total = sum(total, record.written),
+            }
+            place += 1;
+            at = next;
+        }
+        Ok(total)
+    }
+
+    // Puts the records of a tray that is accepted, one behind the other.
+    fn put_tray(&self, run: &[u8], out: &mut [u8])
+        requires { Fits (tray_from self.now.state self.now.format.now run.now) (length out.old) }
+        ensures { out.new ≡ put_in out.old (tray_from self.now.state self.now.format.now run.now).answer }
+    {
+        let mut at = 0;
+        let mut end = 0;
+        while let Some((from, next)) = list_at(run, at).unwrap() {
+            end += self.put_record(&run[from..next], &mut out[end..]);
+            at = next;
+        }
     }
 }
 
@@ -139,11 +121,15 @@ pub fn pack_tray(format: &[u8], run: &[u8], out: &mut [u8]) -> Result<u64, TrayR
     // Copied once a call: each use of a constant copies it anew.
     let options = table();
     let front = settings(&options, format);
-    let rest = &format[front.at..];
-    let n = check_tray(&options, rest, front.state, run, out)?;
+    let packing = Packing {
+        table: &options,
+        format: &format[front.at..],
+        state: front.state,
+    };
+    let n = packing.check_tray(run, out)?;
     if (out.len() as u64) < n {
         return Err(TrayRefusal::from(Refusal::ResultTooLong));
     }
-    put_tray(&options, rest, front.state, run, out);
+    packing.put_tray(run, out);
     Ok(n)
 }

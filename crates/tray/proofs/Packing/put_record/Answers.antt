@@ -5,21 +5,21 @@ use Rattle.definition.specs.Calls.{pack}
 use Rattle.options.specs.Packed.{table_at}
 use Rattle.write_pass.specs.Walks.{values_of, summed, FitsAt, put_at}
 use Rattle.tray.proofs.Records.{alone, length_told, put_front, well_formed, is_ok, fits_at}
-use Rattle.tray.proofs.put_record.Goals as goal
-use Rattle.tray.proofs.put_record.Goals.{Start}
+use Rattle.tray.proofs.Packing.put_record.Goals as goal
+use Rattle.tray.proofs.Packing.put_record.Goals.{Start}
 
 -- what is written is the record
-is : (s : Start) → write (table_at s.args.table.now.entries) s.args.state (values_of s.args.list.now) s.args.format.now ≡ pack s.args.state s.args.format.now s.args.list.now
-is s = alone _ _ _ s.requires.table s.requires.sound (well_formed s.requires.room s.requires.sound)
+is : (s : Start) → write (table_at s.args.self.now.table.now.entries) s.args.self.now.state (values_of s.args.list.now) s.args.self.now.format.now ≡ pack s.args.self.now.state s.args.self.now.format.now s.args.list.now
+is s = alone _ _ _ s.args.self.now.is_options s.args.self.now.sound (well_formed s.requires s.args.self.now.sound)
 
 pub pass-requires-clause-list_sound : goal.pass-requires-clause-list_sound
-pass-requires-clause-list_sound c = well_formed c.requires.room c.requires.sound
+pass-requires-clause-list_sound c = well_formed c.requires c.args.self.now.sound
 
 pub pass-requires-clause-room : goal.pass-requires-clause-room
-pass-requires-clause-room c = λ e. subst (FitsAt _ 0) (sym (is (goal.at.pass-requires-clause-room c).Start)) (fits_at c.requires.room)
+pass-requires-clause-room c = λ e. subst (FitsAt _ 0) (sym (is (goal.at.pass-requires-clause-room c).Start)) (fits_at c.requires)
 
 pub unwrap-record-requires : goal.unwrap-record-requires
-unwrap-record-requires c = is_ok c.requires.room _ (c.pass.ensures.total ∙ ap summed (is (goal.at.unwrap-record-requires c).Start))
+unwrap-record-requires c = is_ok c.requires _ (c.pass.ensures.total ∙ ap summed (is (goal.at.unwrap-record-requires c).Start))
 
 pub returns : goal.returns
 returns c =

@@ -3,10 +3,10 @@ use Prim.Native.Nat.{◌-◌}
 use mathlib.Core.Path.{◌≡◌}
 use lib.ListN.{length}
 use Rattle.tray.proofs.Walking.{Checking}
-use Rattle.tray.proofs.check_tray.Given as goal
+use Rattle.tray.proofs.Packing.check_tray.Given as goal
 
 abbrev pub invariant-loop-from : goal.invariant-loop-from
-invariant-loop-from l = Checking l.state l.format l.run l.at l.place l.total × (l.out ≡ l.initial.out)
+invariant-loop-from l = Checking l.self.state l.self.format.now l.run l.at l.place l.total × (l.out ≡ l.initial.out)
 
 abbrev pub decreases-loop-from : goal.decreases-loop-from
 decreases-loop-from l = length l.run - l.at

@@ -1,9 +1,9 @@
 -- At each step, what the second walk over the run says there.
 use Rattle.tray.proofs.Walking.{putting_end, putting_fits, putting_on}
-use Rattle.tray.proofs.put_tray.Goals as goal
+use Rattle.tray.proofs.Packing.put_tray.Goals as goal
 
-pub put_record-end-requires-clause-room : goal.put_record-end-requires-clause-room
-put_record-end-requires-clause-room c = putting_fits c.loop-from.invariant (rw (c.unwrap.ensures, c.in-Some.is) at c.list_at.ensures)
+pub put_record-end-requires : goal.put_record-end-requires
+put_record-end-requires c = putting_fits c.loop-from.invariant (rw (c.unwrap.ensures, c.in-Some.is) at c.list_at.ensures)
 
 pub loop-from-preserved : goal.loop-from-preserved
 loop-from-preserved c =

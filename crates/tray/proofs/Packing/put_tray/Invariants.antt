@@ -2,10 +2,10 @@
 use Prim.Native.Nat.{◌-◌}
 use lib.ListN.{length}
 use Rattle.tray.proofs.Walking.{Putting}
-use Rattle.tray.proofs.put_tray.Given as goal
+use Rattle.tray.proofs.Packing.put_tray.Given as goal
 
 abbrev pub invariant-loop-from : goal.invariant-loop-from
-invariant-loop-from l = Putting l.state l.format l.run l.initial.out l.at l.end l.out
+invariant-loop-from l = Putting l.self.state l.self.format.now l.run l.initial.out l.at l.end l.out
 
 abbrev pub decreases-loop-from : goal.decreases-loop-from
 decreases-loop-from l = length l.run - l.at

@@ -2,7 +2,7 @@
 use Rattle.std.proofs.Common.{sym, ◌∙◌}
 use Rattle.tray.proofs.Records.{at_most}
 use Rattle.tray.proofs.Walking.{checking_end, checking_refused, checking_on}
-use Rattle.tray.proofs.check_tray.Goals as goal
+use Rattle.tray.proofs.Packing.check_tray.Goals as goal
 
 pub returns-in-Err-clause-tray : goal.returns-in-Err-clause-tray
 returns-in-Err-clause-tray c =
