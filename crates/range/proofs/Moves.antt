@@ -30,13 +30,13 @@ zeros_order u s n z e l h j k i =
     subst (λ (r : Range). u.length + (r.least + j) ≤ s.length + (r.greatest + k)) (same y.rest) o
 
 -- ---- zeros and bytes on: the greatest length by two steps
-module _ (p : Place) (z m : Range) (at : ℕ) where
-  pub refused_zeros : {k : ℕ} → refused k ≡ longer p.greatest z.greatest → (q : List ℕ) → refused k ≡ onward (places_of q p) z (m, drop at q)
-  refused_zeros e q = rw (← longer_twice p.greatest z.greatest m.greatest, ← e)
+module _ (p : Place) (z m : Range) (q : List ℕ) where
+  pub refused_zeros : {k : ℕ} → refused k ≡ longer p.greatest z.greatest → refused k ≡ onward (places_of p) z (m, q)
+  refused_zeros e = rw (← longer_twice p.greatest z.greatest m.greatest, ← e)
 
   module _ (s : State) (e : accepted s ≡ longer p.greatest z.greatest) where
-    pub refused_bytes : {k : ℕ} → refused k ≡ longer s m.greatest → (q : List ℕ) → refused k ≡ onward (places_of q p) z (m, drop at q)
-    refused_bytes g q = rw (← longer_twice p.greatest z.greatest m.greatest, ← e, ← g)
+    pub refused_bytes : {k : ℕ} → refused k ≡ longer s m.greatest → refused k ≡ onward (places_of p) z (m, q)
+    refused_bytes g = rw (← longer_twice p.greatest z.greatest m.greatest, ← e, ← g)
 
     module _ (t : State) (g : accepted t ≡ longer s m.greatest) where
       last : longer p.greatest (z.greatest + m.greatest) ≡ accepted t
@@ -45,31 +45,19 @@ module _ (p : Place) (z m : Range) (at : ℕ) where
       pub room : p.greatest.length + (z.greatest + m.greatest) ≤ 2 ^ 63 - 1
       room = leb-true (p.greatest.length + (z.greatest + m.greatest)) (2 ^ 63 - 1) (longer_room p.greatest t (z.greatest + m.greatest) last).0
 
-      pub arrived : (q : List ℕ) → accepted (places (with_length t (p.least + (z.least + m.least))) t (drop at q)) ≡ onward (places_of q p) z (m, drop at q)
-      arrived q =
-          let there : further p.greatest (z.greatest + m.greatest) ≡ t = (longer_room p.greatest t (z.greatest + m.greatest) last).1 in
-          rw last (ap (λ (x : State). accepted (places (with_length x (p.least + (z.least + m.least))) t (drop at q))) (sym there))
+      there : further p.greatest (z.greatest + m.greatest) ≡ t
+      there = (longer_room p.greatest t (z.greatest + m.greatest) last).1
+
+      pub arrived : accepted (places (with_length t (p.least + (z.least + m.least))) t q) ≡ onward (places_of p) z (m, q)
+      arrived = rw last (ap (λ (x : State). accepted (places (with_length x (p.least + (z.least + m.least))) t q)) (sym there))
+
+      -- what holds of every place
+      pub stays_limited : Limited t
+      stays_limited = subst Limited there p.limited
+
+      pub stays_ordered : p.least + (z.least + m.least) ≤ p.greatest.length + (z.greatest + m.greatest) → p.least + (z.least + m.least) ≤ t.length
+      stays_ordered h = subst (λ (x : State). p.least + (z.least + m.least) ≤ x.length) there h
 
 -- the greatest text of a field has no fewer bytes than the least
 pub bytes_order : (f : Field) (q : List ℕ) (x : Range × List ℕ) → accepted x ≡ extents f q → x.0.least ≤ x.0.greatest
 bytes_order f q x e = extents_order f q x (taken_of f q x (sym e))
-
--- ---- what holds of every place that is come to
-pub record Kept (q : List ℕ) (p : Place) : Type 0 where
-  pub limited : Limited p.greatest
-  pub order : p.least ≤ p.greatest.length
-  pub inside : p.at ≤ length q
-
-op_limited : (r t : Places) (o : Op) → range_op r o ≡ accepted t → T (valid_op o) → Limited r.greatest → Limited t.greatest
-unfolding range_op
-op_limited r t Op.Blank e ok h = subst (λ (x : Places). Limited x.greatest) (same e) h
-op_limited r t (Op.Set x) e ok h = subst (λ (x : Places). Limited x.greatest) (same e) (set_limited x r.greatest ok h)
-op_limited r t (Op.Pad n k) e ok h = subst (λ (x : Places). Limited x.greatest) (pad_went r n k t e).is h
-op_limited r t (Op.Put f) e ok h = subst (λ (x : Places). Limited x.greatest) (put_went r f t e).went.is h
-
-pub op_kept : (q : List ℕ) (p x : Place) (o : Op) → accepted (places_of q x) ≡ range_op (places_of q p) o → T (valid_op o) → x.at ≤ length q → Kept q p → Kept q x
-op_kept q p x o e ok i k = record {
-  limited = op_limited (places_of q p) (places_of q x) o (sym e) ok k.limited;
-  order = (step_before (places_of q p) o (places_of q x) (sym e) (record { limits = refl; lengths = k.order })).lengths;
-  inside = i;
-}

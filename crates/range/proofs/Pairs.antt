@@ -1,13 +1,13 @@
--- The pair at an offset, check by check: its least is above its greatest, its greatest is too long, or it is taken.
-use Prim.Native.Nat.{ℕ, ◌+◌, ◌≤◌, ◌<◌}
+-- The first pair, check by check: its least is above its greatest, its greatest is too long, or it is taken.
+use Prim.Native.Nat.{ℕ, ◌+◌, ◌-◌, ◌≤◌, ◌<◌}
 use native.Mathlib.Nat.{add_comm}
 use native.Mathlib.Omega.{arith}
-use mathlib.Core.Path.{◌≡◌, refl, sym, ap, ◌∙◌}
+use mathlib.Core.Path.{◌≡◌, refl, sym}
 use mathlib.Core.Bool.{Bool, true, false}
 use mathlib.Core.List.{List}
 use lib.Dec.{leb}
 use lib.ListN.{length, take, drop, length-drop}
-use lib.Seq.{drop-drop}
+use lib.Seq.{take_all}
 use borrow.Author.Tests.{le-leb, lt-leb}
 use Rattle.definition.specs.Answers.{Checked, refused, accepted, ◌>>=◌}
 use Rattle.definition.specs.Lists.{big_total}
@@ -15,32 +15,28 @@ use Rattle.values.specs.Loading.{Loaded}
 use Rattle.definition.specs.declared.Field.TheVariants.{ZeroEnded}
 use Rattle.lengths.specs.Lengths.{range, pair_for, extents}
 use Rattle.lengths.specs.declared.Range.{Range}
-use Rattle.range.specs.Places.{text_extents}
+use Rattle.range.specs.Extents.{text_extents}
 
--- the lengths a and b stand at an offset
-pub record Pair (p : List ℕ) (at a b : ℕ) : Type 0 where
-  pub there : leb 4 (length (drop at p)) ≡ true
-  pub least : big_total (take 2 (drop at p)) ≡ a
-  pub greatest : big_total (take 2 (drop 2 (drop at p))) ≡ b
+-- the lengths a and b stand there
+pub record Pair (p : List ℕ) (a b : ℕ) : Type 0 where
+  pub there : leb 4 (length p) ≡ true
+  pub least : big_total (take 2 p) ≡ a
+  pub greatest : big_total (take 2 (drop 2 p)) ≡ b
   pub below : b < 65536
 
-pub pair : (p : List ℕ) (at a b : ℕ) → at + 4 ≤ length p → Loaded p at 2 a → Loaded p (at + 2) 2 b → Pair p at a b
-pair p at a b h x y = record {
-  there = le-leb 4 (length (drop at p)) (omega (arith, h, length-drop at p));
-  least = sym x.is;
-  greatest = ap (λ (q : List ℕ). big_total (take 2 q)) (drop-drop 2 at p) ∙ sym y.is;
-  below = y.below;
-}
+pub pair : (p : List ℕ) (a b : ℕ) → 4 ≤ length p → Loaded p 0 2 a → Loaded p 2 2 b → Pair p a b
+pair p a b h x y = record { there = le-leb 4 (length p) h; least = sym x.is; greatest = sym y.is; below = y.below }
 
-module _ {p : List ℕ} {at a b : ℕ} (q : Pair p at a b) (k : ℕ) (holds : ℕ → Bool) where
-  pub falls : b < a → refused 27 ≡ text_extents holds k (drop at p)
+module _ {p : List ℕ} {a b : ℕ} (q : Pair p a b) (k : ℕ) (holds : ℕ → Bool) where
+  pub falls : b < a → refused 27 ≡ text_extents holds k p
   falls h = rw (q.there, q.least, q.greatest, lt-leb a b h)
 
-  pub too_long : a ≤ b → holds b ≡ false → refused 15 ≡ text_extents holds k (drop at p)
+  pub too_long : a ≤ b → holds b ≡ false → refused 15 ≡ text_extents holds k p
   too_long h e = rw (q.there, q.least, q.greatest, le-leb a b h, e)
 
-  pub taken : a ≤ b → holds b ≡ true → accepted (range (k + a) (k + b), drop (at + 4) p) ≡ text_extents holds k (drop at p)
-  taken h e = rw (q.there, q.least, q.greatest, le-leb a b h, e, drop-drop 4 at p)
+  -- what is left, as it is lent
+  pub taken : a ≤ b → holds b ≡ true → accepted (range (k + a) (k + b), take (length p - 4) (drop 4 p)) ≡ text_extents holds k p
+  taken h e = rw (q.there, q.least, q.greatest, le-leb a b h, e, take_all (length p - 4) (drop 4 p) (omega (arith, length-drop 4 p)))
 
 -- the zero behind the text of z
 pub with_zero : (p : List ℕ) → text_extents (λ m. true) 1 p ≡ extents ZeroEnded p

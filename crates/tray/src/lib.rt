@@ -36,6 +36,7 @@ impl From<Refusal> for TrayRefusal {
 }
 
 // What every record of a tray is laid out by: the option table, what follows the settings at the format's front, and the state there.
+// Its methods take it by value: behind a `&` the state would be copied anew for each record.
 #[derive(Clone, Copy)]
 struct Packing<'a> {
     table: &'a OptionTable,
@@ -59,8 +60,8 @@ fn refused_at(run: &[u8], next: usize, refusal: Refusal, place: u64) -> TrayRefu
 
 impl Packing<'_> {
     // Every check of a record by itself, and its length.
-    fn check_record(&self, list: &[u8], out: &mut [u8]) -> Result<Continued, Refusal>
-        ensures total { answer_of result ≡ summed (pack self.now.state self.now.format.now list.now) }
+    fn check_record(self, list: &[u8], out: &mut [u8]) -> Result<Continued, Refusal>
+        ensures total { answer_of result ≡ summed (pack self.entry.state self.entry.format.now list.now) }
         ensures bytes { out.new ≡ out.old }
     {
         if !is_list(list) {
@@ -70,18 +71,18 @@ impl Packing<'_> {
     }
 
     // Puts a record that is accepted at the buffer's front, and says its length.
-    fn put_record(&self, list: &[u8], out: &mut [u8]) -> usize
-        requires { RecordFits self.now.state self.now.format.now list.now (length out.old) }
-        ensures length { result ≡ length (bytes_from self.now.state self.now.format.now list.now) }
-        ensures bytes { out.new ≡ bytes_from self.now.state self.now.format.now list.now ++ drop result out.old }
+    fn put_record(self, list: &[u8], out: &mut [u8]) -> usize
+        requires { RecordFits self.state self.format.now list.now (length out.old) }
+        ensures length { result ≡ length (bytes_from self.entry.state self.entry.format.now list.now) }
+        ensures bytes { out.new ≡ bytes_from self.entry.state self.entry.format.now list.now ++ drop result out.old }
     {
         let record = pass(self.table, self.format, list, self.state, out, true).unwrap();
         record.written as usize
     }
 
     // Every check, and the tray's length. After a refusal the walk goes on over the lengths alone, since 23 comes before it.
-    fn check_tray(&self, run: &[u8], out: &mut [u8]) -> Result<u64, TrayRefusal>
-        ensures tray { Told (tray_from self.now.state self.now.format.now run.now) result }
+    fn check_tray(self, run: &[u8], out: &mut [u8]) -> Result<u64, TrayRefusal>
+        ensures tray { Told (tray_from self.entry.state self.entry.format.now run.now) result }
         ensures bytes { out.new ≡ out.old }
     {
         let mut at = 0;
@@ -100,9 +101,9 @@ impl Packing<'_> {
     }
 
     // Puts the records of a tray that is accepted, one behind the other.
-    fn put_tray(&self, run: &[u8], out: &mut [u8])
-        requires { Fits (tray_from self.now.state self.now.format.now run.now) (length out.old) }
-        ensures { out.new ≡ put_in out.old (tray_from self.now.state self.now.format.now run.now).answer }
+    fn put_tray(self, run: &[u8], out: &mut [u8])
+        requires { Fits (tray_from self.state self.format.now run.now) (length out.old) }
+        ensures { out.new ≡ put_in out.old (tray_from self.entry.state self.entry.format.now run.now).answer }
     {
         let mut at = 0;
         let mut end = 0;

@@ -5,7 +5,6 @@ use Rattle.definition.specs.Answers.{Checked, accepted, ◌>>=◌}
 use Rattle.measure.proofs.Runs.{run_end, run_refusal, run_valid, run_less, run_refused, run_on}
 use Rattle.lengths.specs.Lengths.{Places, range_of, range_by}
 use Rattle.lengths.specs.declared.Range.{Range}
-use Rattle.range.proofs.Moves.{op_kept}
 use Rattle.range.proofs.range_by.Goals as goal
 
 -- the lengths of the places that a run comes to
@@ -16,31 +15,25 @@ pub returns-in_err-item : goal.returns-in_err-item
 unfolding range_by
 returns-in_err-item c =
     let p = err_from_is_err_and c.from_residual.result c.from_residual.ensures.1 in
-    rw (p.1, p.2) (ap lengths_of (run_refusal c.loop-item.invariant.0 c.in_err-item.ensures))
+    rw (p.1, p.2) (ap lengths_of (run_refusal c.loop-item.invariant c.in_err-item.ensures))
 
-pub range_op-requires-clause-valid_op : goal.range_op-requires-clause-valid_op
-range_op-requires-clause-valid_op c =
-    run_valid c.loop-item.invariant.0 (rw c.in-Some.is at c.in_ok-item.ensures) c.op.ensures c.args.table.now.sizes
+pub step-requires : goal.step-requires
+step-requires c =
+    run_valid c.loop-item.invariant (rw c.in-Some.is at c.in_ok-item.ensures) c.op.ensures c.args.table.now.sizes
 
-pub returns-in_err-range_op : goal.returns-in_err-range_op
+pub returns-in_err-step : goal.returns-in_err-step
 unfolding range_by
-returns-in_err-range_op c =
-    let p = err_from_is_err_and c.from_residual-in_err-range_op.result c.from_residual-in_err-range_op.ensures.1 in
-    rw (p.1, p.2) (ap lengths_of (run_refused c.loop-item.invariant.0 (rw c.in-Some.is at c.in_ok-item.ensures) c.op.ensures c.in_err-range_op.ensures.moved))
+returns-in_err-step c =
+    let p = err_from_is_err_and c.from_residual-in_err-step.result c.from_residual-in_err-step.ensures.1 in
+    rw (p.1, p.2) (ap lengths_of (run_refused c.loop-item.invariant (rw c.in-Some.is at c.in_ok-item.ensures) c.op.ensures c.in_err-step.ensures))
 
 pub loop-item-smaller : goal.loop-item-smaller
-loop-item-smaller c = run_less c.loop-item.invariant.0 (rw c.in-Some.is at c.in_ok-item.ensures) c.op.ensures
+loop-item-smaller c = run_less c.loop-item.invariant (rw c.in-Some.is at c.in_ok-item.ensures) c.op.ensures
 
 pub loop-item-preserved : goal.loop-item-preserved
 loop-item-preserved c =
-    let e = rw c.in-Some.is at c.in_ok-item.ensures in
-    let m = c.in_ok-range_op.ensures in
-    let valid = run_valid c.loop-item.invariant.0 e c.op.ensures c.args.table.now.sizes in
-    rw c.place_parts-p.ensures (
-      run_on c.loop-item.invariant.0 e c.op.ensures m.moved refl,
-      op_kept _ _ _ _ m.moved valid m.place_inside c.loop-item.invariant.1,
-    )
+    rw c.parts-p.ensures (run_on c.loop-item.invariant (rw c.in-Some.is at c.in_ok-item.ensures) c.op.ensures c.in_ok-step.ensures refl)
 
 pub returns : goal.returns
 unfolding range_by
-returns c = ap lengths_of (run_end c.loop-item.invariant.0 (rw c.in_default.is at c.in_ok-item.ensures))
+returns c = ap lengths_of (run_end c.loop-item.invariant (rw c.in_default.is at c.in_ok-item.ensures))

@@ -9,11 +9,11 @@ use Rattle.tray.proofs.Packing.put_record.Goals as goal
 use Rattle.tray.proofs.Packing.put_record.Goals.{Start}
 
 -- what is written is the record
-is : (s : Start) → write (table_at s.args.self.now.table.now.entries) s.args.self.now.state (values_of s.args.list.now) s.args.self.now.format.now ≡ pack s.args.self.now.state s.args.self.now.format.now s.args.list.now
-is s = alone _ _ _ s.args.self.now.is_options s.args.self.now.sound (well_formed s.requires s.args.self.now.sound)
+is : (s : Start) → write (table_at s.args.self.table.now.entries) s.args.self.state (values_of s.args.list.now) s.args.self.format.now ≡ pack s.args.self.state s.args.self.format.now s.args.list.now
+is s = alone _ _ _ s.args.self.is_options s.args.self.sound (well_formed s.requires s.args.self.sound)
 
 pub pass-requires-clause-list_sound : goal.pass-requires-clause-list_sound
-pass-requires-clause-list_sound c = well_formed c.requires c.args.self.now.sound
+pass-requires-clause-list_sound c = well_formed c.requires c.args.self.sound
 
 pub pass-requires-clause-room : goal.pass-requires-clause-room
 pass-requires-clause-room c = λ e. subst (FitsAt _ 0) (sym (is (goal.at.pass-requires-clause-room c).Start)) (fits_at c.requires)

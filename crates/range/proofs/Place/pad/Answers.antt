@@ -3,9 +3,9 @@ use native.Mathlib.Omega.{arith}
 use mathlib.Core.Path.{refl}
 use Rattle.range.specs.Places.{with_length}
 use Rattle.range.proofs.Moves.{zeros_order}
-use Rattle.range.proofs.range_pad.Goals as goal
+use Rattle.range.proofs.Place.pad.Goals as goal
 
 pub onward-requires : goal.onward-requires
 onward-requires c =
-    zeros_order (with_length c.args.p.greatest c.args.p.least) c.args.p.greatest c.args.natural _ (rw c.in_ok-zeros.was at c.paddings.ensures) refl c.requires.ordered
+    zeros_order (with_length c.args.self.greatest c.args.self.least) c.args.self.greatest c.args.natural _ (rw c.in_ok-zeros.was at c.paddings.ensures) refl c.args.self.ordered
     c.args.n c.args.n (omega arith)

@@ -1,0 +1,12 @@
+-- The field's bytes with the greatest text are no fewer than with the least.
+use mathlib.Core.Path.{refl}
+use Rattle.definition.specs.States.{natural}
+use Rattle.range.specs.Places.{with_length}
+use Rattle.range.proofs.Moves.{zeros_order, bytes_order}
+use Rattle.range.proofs.Place.field.Goals as goal
+
+pub onward-requires : goal.onward-requires
+onward-requires c =
+    let p = c.args.self in
+    zeros_order (with_length p.greatest p.least) p.greatest (natural c.args.f) _ (rw (c.in_ok-zeros.was, c.natural.ensures) at c.paddings.ensures) refl p.ordered
+    _ _ (bytes_order c.args.f p.pairs.now _ (rw c.in_ok-bytes.was at c.extents.ensures))
