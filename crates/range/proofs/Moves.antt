@@ -1,22 +1,19 @@
 -- What both lengths go on by: in order, the greatest by two steps, and with the limit kept.
 use Prim.Native.Nat.{ℕ, ◌+◌, ◌-◌, ◌^◌, ◌≤◌}
-use mathlib.Core.Path.{◌≡◌, refl, sym, ap, ◌∙◌, subst}
+use mathlib.Core.Path.{◌≡◌, sym, ap, ◌∙◌, subst}
 use mathlib.Core.List.{List, []}
-use lib.Dec.{T}
-use lib.ListN.{length, drop}
 use borrow.Author.Tests.{leb-true}
 use Rattle.definition.specs.Answers.{refused, accepted}
 use Rattle.definition.specs.States.{further, longer, padding}
 use Rattle.definition.specs.declared.State.{State}
 use Rattle.definition.specs.declared.Field.{Field}
-use Rattle.definition.specs.declared.Op.{Op}
-use Rattle.laws.proofs.Ops.{Limited, set_limited, valid_op}
+use Rattle.laws.proofs.Ops.{Limited}
 use Rattle.laws.proofs.Answers.{same, bound}
 use Rattle.laws.proofs.Steps.{longer_room, longer_twice}
-use Rattle.lengths.specs.Lengths.{range, extents, Places, places, paddings, onward, range_op}
+use Rattle.lengths.specs.Lengths.{range, extents, places, paddings, onward}
 use Rattle.lengths.specs.declared.Range.{Range}
 use Rattle.lengths.proofs.Orders.{Before, item_before}
-use Rattle.lengths.proofs.Steps.{pad_went, put_went, taken_of, extents_order, step_before}
+use Rattle.lengths.proofs.Steps.{taken_of, extents_order}
 use Rattle.range.specs.Places.{with_length, places_of}
 use Rattle.range.specs.declared.Place.{Place}
 
