@@ -36,8 +36,13 @@ use Rattle.word.specs.Words.{fill_of, Says}
 use Rattle.plan.specs.Texts.{first_text, TextAt, TextRead}
 use Rattle.plan.specs.Plans.{wrote, Encoded, Wrote, Padded, ItemPlan, ItemAt, NumberPlan, BytesPlan}
 use Rattle.plan.specs.declared.item.Plan.{Plan}
+use Rattle.plan.specs.declared.place.Place.{Place}
 use Rattle.plan.specs.declared.text.Text.{Text}
 use Rattle.plan.proofs.Texts.{TextField, no_text}
+
+-- the list that writing takes its values from
+abbrev list_of : Place → List ℕ
+list_of at = at.reader.list.now
 
 -- ---- padding is below 16
 
@@ -72,11 +77,11 @@ module _ (s : State) (vs : List definition.Value) (n k : ℕ) where
     pad_zeros h = record { is = rw (e, room_longer s (p + k) h); room = leb-true (s.length + (p + k)) (2 ^ 63 - 1) h }
 
 -- ---- fields
-module _ (s : State) (f : Field) where
-  pub unaligned : (l : List ℕ) (at : ℕ) (r : Refusal) → padding s (natural f) ≡ refused (refusal_number r) → ItemAt l at s (Op.Put f) (Err r)
-  unfolding write_op write_field
-  unaligned l at r e vs known = rw e
+pub unaligned : (at : Place) (f : Field) (r : Refusal) → padding at.state (natural f) ≡ refused (refusal_number r) → ItemAt at (Op.Put f) (Err r)
+unfolding write_op write_field
+unaligned at f r e vs known = rw e
 
+module _ (s : State) (f : Field) where
   module _ (p : ℕ) (e : padding s (natural f) ≡ accepted p) where
     field_early : (vs : List definition.Value) (j : ℕ) → early s f ≡ refused j → wrote s vs (Op.Put f) ≡ refused j
     unfolding write_op write_field
@@ -141,17 +146,16 @@ module _ (s : State) (p : ℕ) (k : Kind) (n : ℕ) (v : Value) (next : ℕ) whe
     number_put r l rest e g = encoded_put l s _ (Field.Number k n) p _ next (p + n) (number_encoded l rest e g) number_size r
 
 -- by what stands in the list
-module _ (l : List ℕ) (at : ℕ) (s : State) (k : Kind) (n : ℕ) where
-  module _ (p : ℕ) (e : padding s n ≡ accepted p) where
-    pub number_none : {r : Refusal} → FieldRead l at None → ◌≡◌ {A = Result (Value × ℕ) Refusal} (Err r) (Err Refusal.NoValueLeft) → ItemAt l at s (Op.Put (Field.Number k n)) (Err r)
-    number_none {r} h same vs known =
-        let is : r ≡ Refusal.NoValueLeft = cc in
-        rw is (ap (λ (ws : List definition.Value). wrote s ws (Op.Put (Field.Number k n))) (takes_none l at vs known h.says) ∙ field_none s (Field.Number k n) p e s refl)
+module _ (at : Place) (k : Kind) (n p : ℕ) (e : padding at.state n ≡ accepted p) where
+  pub number_none : {r : Refusal} → FieldRead (list_of at) at.reader.at None → ◌≡◌ {A = Result (Value × ℕ) Refusal} (Err r) (Err Refusal.NoValueLeft) → ItemAt at (Op.Put (Field.Number k n)) (Err r)
+  number_none {r} h same vs known =
+      let is : r ≡ Refusal.NoValueLeft = cc in
+      rw is (ap (λ (ws : List definition.Value). wrote at.state ws (Op.Put (Field.Number k n))) (takes_none (list_of at) at.reader.at vs known h.says) ∙ field_none at.state (Field.Number k n) p e at.state refl)
 
-    pub number_found : {v : Value} {next : ℕ} (r : Result Plan Refusal) → FieldRead l at (Some (v, next)) → NumberPlan s p k n v next r → ItemAt l at s (Op.Put (Field.Number k n)) r
-    number_found {v} {next} r h q vs known =
-        let t = takes_first l at vs known (meaning l v) next h.says in
-        subst (λ (ws : List definition.Value). ItemPlan l s ws (Op.Put (Field.Number k n)) r) (sym t.is) (q l t.others e t.left)
+  pub number_found : {v : Value} {next : ℕ} (r : Result Plan Refusal) → FieldRead (list_of at) at.reader.at (Some (v, next)) → NumberPlan at.state p k n v next r → ItemAt at (Op.Put (Field.Number k n)) r
+  number_found {v} {next} r h q vs known =
+      let t = takes_first (list_of at) at.reader.at vs known (meaning (list_of at) v) next h.says in
+      subst (λ (ws : List definition.Value). ItemPlan (list_of at) at.state ws (Op.Put (Field.Number k n)) r) (sym t.is) (q (list_of at) t.others e t.left)
 
 -- ---- texts: what `bytes` makes of a list that has the text is `size` long
 module _ (s : State) (p : ℕ) (t : Text) (bytes : List ℕ → List ℕ) (size : ℕ) (sized : (l : List ℕ) → t.start + t.length ≤ length l → length (bytes l) ≡ size) where
@@ -166,46 +170,52 @@ module _ (s : State) (p : ℕ) (t : Text) (bytes : List ℕ → List ℕ) (size 
   text_put h l vs f x within = (encoded_put l s vs f p _ t.next _ x (whole_size l within) h, within)
 
 -- a text option f after p zeros, which passed what is checked before its value
-pub record Begun (l : List ℕ) (at : ℕ) (s : State) (f : Field) (p : ℕ) : Type 0 where
+pub record Begun (at : Place) (f : Field) (p : ℕ) : Type 0 where
   pub is_text : TextField f
-  pub padded : padding s (natural f) ≡ accepted p
+  pub padded : padding at.state (natural f) ≡ accepted p
   pub state : State
-  pub early_is : early s f ≡ accepted state
+  pub early_is : early at.state f ≡ accepted state
 
-module _ {l : List ℕ} {at : ℕ} {s : State} {f : Field} {p : ℕ} (b : Begun l at s f p) where
-  pub text_missing : (r : Refusal) → TextRead l at (Err r) → ItemAt l at s (Op.Put f) (Err r)
+module _ {at : Place} {f : Field} {p : ℕ} (b : Begun at f p) where
+  abbrev s : State
+  s = at.state
+
+  abbrev l : List ℕ
+  l = list_of at
+
+  pub text_missing : (r : Refusal) → TextRead l at.reader.at (Err r) → ItemAt at (Op.Put f) (Err r)
   text_missing r h vs known = go vs (h vs known)
     where
       go : (ws : List definition.Value) → first_text ws ≡ refused (refusal_number r) → wrote s ws (Op.Put f) ≡ refused (refusal_number r)
       go [] e = let i : 11 ≡ refusal_number r = cc in field_none s f p b.padded b.state b.early_is ∙ ap refused i
       go (v ∷ ws) e = field_refused s f p b.padded b.state b.early_is v ws _ (no_text s.big f v _ b.is_text e)
 
-  module _ {t : Text} (h : TextAt l at t) where
-    pub text_refused : (r : Refusal) → encode s.big f (text (take t.length (drop t.start l))) ≡ refused (refusal_number r) → ItemAt l at s (Op.Put f) (Err r)
+  module _ {t : Text} (h : TextAt l at.reader.at t) where
+    pub text_refused : (r : Refusal) → encode s.big f (text (take t.length (drop t.start l))) ≡ refused (refusal_number r) → ItemAt at (Op.Put f) (Err r)
     text_refused r e vs known =
         let u = h.found vs known in
         ap (λ (ws : List definition.Value). wrote s ws (Op.Put f)) u.is ∙ field_refused s f p b.padded b.state b.early_is _ u.rest _ e
 
-    pub text_planned : (bytes : List ℕ → List ℕ) (r : Result Plan Refusal) → encode s.big f (text (take t.length (drop t.start l))) ≡ accepted (bytes l) → BytesPlan bytes s p t r → ItemAt l at s (Op.Put f) r
+    pub text_planned : (bytes : List ℕ → List ℕ) (r : Result Plan Refusal) → encode s.big f (text (take t.length (drop t.start l))) ≡ accepted (bytes l) → BytesPlan bytes s p t r → ItemAt at (Op.Put f) r
     text_planned bytes r e q vs known =
         let u = h.found vs known in
         q l vs f (record { padded = b.padded; state = b.state; early_is = b.early_is; val = text (take t.length (drop t.start l)); rest = u.rest; first = u.is; encoded = e; list = u.list }) h.within
 
 -- c checks 9 early
-pub chars_early : (l : List ℕ) (at : ℕ) (s : State) (n : ℕ) {p : ℕ} → padding s 1 ≡ accepted p → leb (s.length + n) (2 ^ 63 - 1) ≡ false → ItemAt l at s (Op.Put (Field.Chars n)) (Err Refusal.LengthTooLarge)
-chars_early l at s n {p} e h vs known = field_early s (Field.Chars n) p e vs 9 (no_room s n h)
+pub chars_early : (at : Place) (n : ℕ) {p : ℕ} → padding at.state 1 ≡ accepted p → leb (at.state.length + n) (2 ^ 63 - 1) ≡ false → ItemAt at (Op.Put (Field.Chars n)) (Err Refusal.LengthTooLarge)
+chars_early at n {p} e h vs known = field_early at.state (Field.Chars n) p e vs 9 (no_room at.state n h)
 
 pub chars_room : (s : State) (n : ℕ) → leb (s.length + n) (2 ^ 63 - 1) ≡ true → early s (Field.Chars n) ≡ accepted (further s n)
 chars_room s n e = room_longer s n e
 
 -- ---- an item, by what it is
-pub of_op : (l : List ℕ) (at : ℕ) (s : State) (o q : Op) (r : Result Plan Refusal) → ItemAt l at s q r → o ≡ q → ItemAt l at s o r
-of_op l at s o q r h e = subst (λ (x : Op). ItemAt l at s x r) (sym e) h
+pub of_op : (at : Place) (o q : Op) (r : Result Plan Refusal) → ItemAt at q r → o ≡ q → ItemAt at o r
+of_op at o q r h e = subst (λ (x : Op). ItemAt at x r) (sym e) h
 
-pub skips : (l : List ℕ) (at : ℕ) (s : State) → ItemAt l at s Op.Blank (Ok Plan.Skip)
+pub skips : (at : Place) → ItemAt at Op.Blank (Ok Plan.Skip)
 unfolding write_op
-skips l at s vs known = refl
+skips at vs known = refl
 
-pub sets_state : (l : List ℕ) (at : ℕ) (s : State) (x : Setting) → ItemAt l at s (Op.Set x) (Ok (Plan.Set x))
+pub sets_state : (at : Place) (x : Setting) → ItemAt at (Op.Set x) (Ok (Plan.Set x))
 unfolding write_op
-sets_state l at s x vs known = refl
+sets_state at x vs known = refl

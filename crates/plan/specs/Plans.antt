@@ -7,7 +7,8 @@ use Rattle.definition.specs.Fields.{encode}
 use Rattle.definition.specs.Values as definition
 use Rattle.definition.specs.Lists.{values}
 use Rattle.definition.specs.States.{set, further, natural, padding}
-use Rattle.definition.specs.Writing.{byte, pads, Output, output, nothing, Place, place, early, write_op}
+use Rattle.definition.specs.Writing as writing
+use Rattle.definition.specs.Writing.{byte, pads, Output, output, nothing, place, early, write_op}
 use Rattle.definition.specs.declared.State.{State}
 use Rattle.definition.specs.declared.Kind.{Kind}
 use Rattle.definition.specs.declared.Field.{Field}
@@ -19,10 +20,11 @@ use Rattle.store.specs.Texts.{text_bytes, counted_bytes}
 use Rattle.word.specs.Words.{fill_of}
 use Rattle.plan.specs.declared.item.Plan.{Plan}
 use Rattle.plan.specs.declared.item.Plan.TheVariants as plans
+use Rattle.plan.specs.declared.place.Place.{Place}
 use Rattle.plan.specs.declared.text.Text.{Text}
 
 -- what the item op gives, written at the state s with the values vs
-abbrev pub wrote : State → List definition.Value → Op → Checked (Place definition.Value × Output)
+abbrev pub wrote : State → List definition.Value → Op → Checked (writing.Place definition.Value × Output)
 wrote s vs op = write_op (place s vs) op
 
 -- a field with the values vs before check 9: p zeros, its value's bytes, and the list's next field
@@ -64,9 +66,9 @@ abbrev pub ItemPlan : List ℕ → State → List definition.Value → Op → Re
 ItemPlan l s vs op (Err r) = wrote s vs op ≡ refused (refusal_number r)
 ItemPlan l s vs op (Ok p) = Planned l s vs op p
 
--- the plan of an item with the values of l from a field on
-abbrev pub ItemAt : List ℕ → ℕ → State → Op → Result Plan Refusal → Type 0
-ItemAt l at s op r = (vs : List definition.Value) → values (drop at l) ≡ accepted vs → ItemPlan l s vs op r
+-- the plan of an item at a place, with the values of its list from its field on
+abbrev pub ItemAt : Place → Op → Result Plan Refusal → Type 0
+ItemAt p op r = (vs : List definition.Value) → values (drop p.reader.at p.reader.list.now) ≡ accepted vs → ItemPlan p.reader.list.now p.state vs op r
 
 -- of a number that takes the value v after p zeros
 abbrev pub NumberPlan : State → ℕ → Kind → ℕ → Value → ℕ → Result Plan Refusal → Type 0

@@ -1,23 +1,21 @@
 // What writing does for an item: one plan serves the pass that checks and the pass that puts bytes.
-ghost use Rattle.std.specs.Prelude.{◌≡◌, true, List, ℕ, ◌+◌, ◌-◌, ◌^◌, ◌<◌, ◌≤◌, T, ltb, drop};
+ghost use Rattle.std.specs.Prelude.{◌≡◌, ◌+◌, ◌-◌, ◌^◌, ◌<◌, ◌≤◌, T, ltb};
 ghost use Rattle.definition.specs.Answers.{accepted};
 ghost use Rattle.definition.specs.Refusals.{answer_of};
-ghost use Rattle.definition.specs.Lists.{values};
 ghost use Rattle.definition.specs.States as states;
-ghost use Rattle.definition.specs.Values as definition;
 ghost use Rattle.definition.specs.declared.Field.TheVariants as fields;
 ghost use Rattle.definition.specs.declared.Op.TheVariants as ops;
-ghost use Rattle.laws.proofs.Calls.{Sound};
 ghost use Rattle.laws.proofs.Fields.{valid_field};
 ghost use Rattle.laws.proofs.Numbers.{valid_size};
 ghost use Rattle.laws.proofs.Ops.{valid_op};
-ghost use Rattle.values.specs.Meaning.{is_accepted, Proper};
-ghost use Rattle.plan.specs.Plans.{ItemPlan, ItemAt, NumberPlan, TextPlan, CountedPlan};
+ghost use Rattle.values.specs.Meaning.{Proper};
+ghost use Rattle.plan.specs.Plans.{ItemAt, NumberPlan, TextPlan, CountedPlan};
 
+use crate::place::Place;
 use crate::text::{Text, has_zero, text_at};
 use align::{fits, fits_few, natural, padding};
-use definition::{Field, Kind, Op, Refusal, Setting, State};
-use values::{Value, field_at};
+use definition::{Field, Kind, Op, Refusal, Setting};
+use values::Value;
 use word::word_of;
 
 // What an item does.
@@ -51,14 +49,13 @@ pub enum Plan {
 }
 
 // x and X: 6, 9.
-fn pad(s: State, natural: u64, zeros: u64) -> Result<Plan, Refusal>
-    requires sound { Sound s }
+fn pad(place: Place, natural: u64, zeros: u64) -> Result<Plan, Refusal>
     requires positive { 1 ≤ natural }
     requires one_zero { zeros ≤ 1 }
-    ensures { (l : List ℕ) (vs : List definition.Value) → ItemPlan l s vs (ops.Pad natural zeros) result }
+    ensures { ItemAt place.entry (ops.Pad natural zeros) result }
 {
-    let p = padding(s, natural)?;
-    if !fits(s, p + zeros) {
+    let p = padding(place.state, natural)?;
+    if !fits(place.state, p + zeros) {
         return Err(Refusal::LengthTooLarge);
     }
     Ok(Plan::Zeros(p + zeros))
@@ -66,21 +63,20 @@ fn pad(s: State, natural: u64, zeros: u64) -> Result<Plan, Refusal>
 
 // A number that takes the value v, after p zeros: 12, 13, 9.
 fn put_number(
-    s: State,
+    place: Place,
     p: u64,
     kind: Kind,
     size: u64,
     v: Value,
     next: usize,
 ) -> Result<Plan, Refusal>
-    requires sound { Sound s }
     requires small_fill { p < 16 }
     requires proper { Proper v }
     requires valid_size { T (valid_size kind size) }
-    ensures { NumberPlan s p kind size v next result }
+    ensures { NumberPlan place.entry.state p kind size v next result }
 {
     let word = word_of(kind, size, v)?;
-    if !fits_few(s, p + size) {
+    if !fits_few(place.state, p + size) {
         return Err(Refusal::LengthTooLarge);
     }
     Ok(Plan::Number {
@@ -92,25 +88,22 @@ fn put_number(
 }
 
 // A number after p zeros: 11, 12, 13, 9.
-fn number(list: &[u8], at: usize, s: State, p: u64, kind: Kind, size: u64) -> Result<Plan, Refusal>
-    requires sound { Sound s }
-    requires list_sound { is_accepted (values (drop at list.now)) ≡ true }
-    requires padded { states.padding s size ≡ accepted p }
+fn number(place: Place, p: u64, kind: Kind, size: u64) -> Result<Plan, Refusal>
+    requires padded { states.padding place.state size ≡ accepted p }
     requires valid_size { T (valid_size kind size) }
-    ensures { ItemAt list.now at s (ops.Put (fields.Number kind size)) result }
+    ensures { ItemAt place.entry (ops.Put (fields.Number kind size)) result }
 {
-    let (v, next) = field_at(list, at).ok_or(Refusal::NoValueLeft)?;
-    put_number(s, p, kind, size, v, next)
+    let (v, next) = place.reader.field().ok_or(Refusal::NoValueLeft)?;
+    put_number(place, p, kind, size, v, next)
 }
 
 // A text after p zeros that passed all checks but 9.
-fn put_text(s: State, p: u64, text: Text, zeros: u64) -> Result<Plan, Refusal>
-    requires sound { Sound s }
+fn put_text(place: Place, p: u64, text: Text, zeros: u64) -> Result<Plan, Refusal>
     requires small_fill { p < 16 }
     requires length_fits { text.length + zeros ≤ 2 ^ 63 - 1 }
-    ensures { TextPlan s p text zeros result }
+    ensures { TextPlan place.entry.state p text zeros result }
 {
-    if !fits(s, p + (text.length as u64 + zeros)) {
+    if !fits(place.state, p + (text.length as u64 + zeros)) {
         return Err(Refusal::LengthTooLarge);
     }
     Ok(Plan::Text {
@@ -121,35 +114,31 @@ fn put_text(s: State, p: u64, text: Text, zeros: u64) -> Result<Plan, Refusal>
 }
 
 // c after p zeros: 9, 11, 12, 15, 9.
-fn chars(list: &[u8], at: usize, s: State, p: u64, n: u64) -> Result<Plan, Refusal>
-    requires sound { Sound s }
-    requires list_sound { is_accepted (values (drop at list.now)) ≡ true }
-    requires padded { states.padding s (states.natural (fields.Chars n)) ≡ accepted p }
-    ensures { ItemAt list.now at s (ops.Put (fields.Chars n)) result }
+fn chars(place: Place, p: u64, n: u64) -> Result<Plan, Refusal>
+    requires padded { states.padding place.state (states.natural (fields.Chars n)) ≡ accepted p }
+    ensures { ItemAt place.entry (ops.Put (fields.Chars n)) result }
 {
-    if !fits(s, n) {
+    if !fits(place.state, n) {
         return Err(Refusal::LengthTooLarge);
     }
-    let text = text_at(list, at)?;
+    let text = text_at(place.reader)?;
     let length = text.length as u64;
     if n < length {
         return Err(Refusal::TextDoesNotFit);
     }
-    put_text(s, p, text, n - length)
+    put_text(place, p, text, n - length)
 }
 
 // z after p zeros: 11, 12, 14, 9.
-fn zero_ended(list: &[u8], at: usize, s: State, p: u64) -> Result<Plan, Refusal>
-    requires sound { Sound s }
-    requires list_sound { is_accepted (values (drop at list.now)) ≡ true }
-    requires padded { states.padding s (states.natural fields.ZeroEnded) ≡ accepted p }
-    ensures { ItemAt list.now at s (ops.Put fields.ZeroEnded) result }
+fn zero_ended(place: Place, p: u64) -> Result<Plan, Refusal>
+    requires padded { states.padding place.state (states.natural fields.ZeroEnded) ≡ accepted p }
+    ensures { ItemAt place.entry (ops.Put fields.ZeroEnded) result }
 {
-    let text = text_at(list, at)?;
-    if has_zero(text.bytes(list)) {
+    let text = text_at(place.reader)?;
+    if has_zero(text.bytes(place.reader.list)) {
         return Err(Refusal::ZeroInText);
     }
-    put_text(s, p, text, 1)
+    put_text(place, p, text, 1)
 }
 
 // Whether a length in so many bytes can be n.
@@ -165,14 +154,13 @@ fn countable(size: u64, n: usize) -> bool
 }
 
 // A text behind its length, after p zeros, that passed all checks but 9.
-fn put_counted(s: State, p: u64, size: u64, text: Text) -> Result<Plan, Refusal>
-    requires sound { Sound s }
+fn put_counted(place: Place, p: u64, size: u64, text: Text) -> Result<Plan, Refusal>
     requires small_fill { p < 16 }
     requires small_size { size ≤ 16 }
     requires short { text.length ≤ 65535 }
-    ensures { CountedPlan s p size text result }
+    ensures { CountedPlan place.entry.state p size text result }
 {
-    if !fits_few(s, p + (size + text.length as u64)) {
+    if !fits_few(place.state, p + (size + text.length as u64)) {
         return Err(Refusal::LengthTooLarge);
     }
     Ok(Plan::Counted {
@@ -183,56 +171,49 @@ fn put_counted(s: State, p: u64, size: u64, text: Text) -> Result<Plan, Refusal>
 }
 
 // s after p zeros: 11, 12, 15, 9.
-fn counted(list: &[u8], at: usize, s: State, p: u64, size: u64) -> Result<Plan, Refusal>
-    requires sound { Sound s }
-    requires list_sound { is_accepted (values (drop at list.now)) ≡ true }
-    requires padded { states.padding s (states.natural (fields.Counted size)) ≡ accepted p }
+fn counted(place: Place, p: u64, size: u64) -> Result<Plan, Refusal>
+    requires padded { states.padding place.state (states.natural (fields.Counted size)) ≡ accepted p }
     requires valid_field { T (valid_field (fields.Counted size)) }
-    ensures { ItemAt list.now at s (ops.Put (fields.Counted size)) result }
+    ensures { ItemAt place.entry (ops.Put (fields.Counted size)) result }
 {
-    let text = text_at(list, at)?;
+    let text = text_at(place.reader)?;
     if !countable(size, text.length) {
         return Err(Refusal::TextDoesNotFit);
     }
-    put_counted(s, p, size, text)
+    put_counted(place, p, size, text)
 }
 
 // The zeros before a field, or 6.
-fn padding_of(s: State, f: Field) -> Result<u64, Refusal>
-    requires sound { Sound s }
+fn padding_of(place: Place, f: Field) -> Result<u64, Refusal>
     requires valid_field { T (valid_field f) }
-    ensures { answer_of result ≡ states.padding s (states.natural f) }
+    ensures { answer_of result ≡ states.padding place.entry.state (states.natural f) }
 {
-    padding(s, natural(f))
+    padding(place.state, natural(f))
 }
 
 // A field: 6, then by its option. Each is padded by itself, so that the compiler knows in each case which natural alignment it
 // has, and goes on from there to that option's checks.
-fn field(list: &[u8], at: usize, s: State, f: Field) -> Result<Plan, Refusal>
-    requires sound { Sound s }
-    requires list_sound { is_accepted (values (drop at list.now)) ≡ true }
+fn field(place: Place, f: Field) -> Result<Plan, Refusal>
     requires valid_field { T (valid_field f) }
-    ensures { ItemAt list.now at s (ops.Put f) result }
+    ensures { ItemAt place.entry (ops.Put f) result }
 {
     match f {
-        Field::Number(kind, size) => number(list, at, s, padding_of(s, f)?, kind, size),
-        Field::Chars(n) => chars(list, at, s, padding_of(s, f)?, n),
-        Field::ZeroEnded => zero_ended(list, at, s, padding_of(s, f)?),
-        Field::Counted(size) => counted(list, at, s, padding_of(s, f)?, size),
+        Field::Number(kind, size) => number(place, padding_of(place, f)?, kind, size),
+        Field::Chars(n) => chars(place, padding_of(place, f)?, n),
+        Field::ZeroEnded => zero_ended(place, padding_of(place, f)?),
+        Field::Counted(size) => counted(place, padding_of(place, f)?, size),
     }
 }
 
-// The plan of a checked item, from a state and the list's field at an offset.
-pub fn plan_of(list: &[u8], at: usize, s: State, op: Op) -> Result<Plan, Refusal>
-    requires sound { Sound s }
-    requires list_sound { is_accepted (values (drop at list.now)) ≡ true }
+// The plan of a checked item at a place.
+pub fn plan_of(place: Place, op: Op) -> Result<Plan, Refusal>
     requires valid_op { T (valid_op op) }
-    ensures { ItemAt list.now at s op result }
+    ensures { ItemAt place.entry op result }
 {
     match op {
         Op::Blank => Ok(Plan::Skip),
         Op::Set(x) => Ok(Plan::Set(x)),
-        Op::Pad(natural, zeros) => pad(s, natural, zeros),
-        Op::Put(f) => field(list, at, s, f),
+        Op::Pad(natural, zeros) => pad(place, natural, zeros),
+        Op::Put(f) => field(place, f),
     }
 }

@@ -2,4 +2,5 @@
 #![tactic(auto)]
 
 pub mod item;
+pub mod place;
 pub mod text;

@@ -1,12 +1,11 @@
 // The texts that options take of the value list.
-ghost use Rattle.std.specs.Prelude.{◌≡◌, true, ◌+◌, ◌≤◌, length, take, drop};
+ghost use Rattle.std.specs.Prelude.{◌≡◌, ◌+◌, ◌≤◌, length, take, drop};
 ghost use Rattle.definition.specs.Fields as fields;
-ghost use Rattle.definition.specs.Lists.{values};
-ghost use Rattle.values.specs.Meaning.{is_accepted};
 ghost use Rattle.plan.specs.Texts.{TextRead};
 
 use definition::Refusal;
-use values::{Value, field_at};
+use values::Value;
+use values::reader::Reader;
 
 // A text of the list: where it starts, its length, and where the list's next field starts.
 // A place and not the bytes, since a plan is made by functions that don't see the list.
@@ -27,12 +26,11 @@ impl Text {
     }
 }
 
-// The text of the field at an offset: 11, 12.
-pub fn text_at(list: &[u8], at: usize) -> Result<Text, Refusal>
-    requires { is_accepted (values (drop at list.now)) ≡ true }
-    ensures { TextRead list.now at result }
+// The text of a list's field: 11, 12.
+pub fn text_at(reader: Reader) -> Result<Text, Refusal>
+    ensures { TextRead reader.entry.list.now reader.entry.at result }
 {
-    let (value, next) = field_at(list, at).ok_or(Refusal::NoValueLeft)?;
+    let (value, next) = reader.field().ok_or(Refusal::NoValueLeft)?;
     let Value::Text(start, length) = value else {
         return Err(Refusal::WrongKind);
     };

@@ -1,12 +1,12 @@
 // Reads the fields of a value list.
 #![tactic(auto)]
 
-mod reader;
+pub mod reader;
 
 ghost use Rattle.std.specs.Prelude.{◌≡◌, true, ◌+◌, ◌≤◌, ◌<◌, length, drop};
 ghost use Rattle.definition.specs.Lists.{values, offset_after};
 ghost use Rattle.values.specs.Loading.{Loaded};
-ghost use Rattle.values.specs.Meaning.{numeric, FloatRead, suits, ContentRead, FieldRead, is_accepted};
+ghost use Rattle.values.specs.Meaning.{numeric, FloatRead, suits, LengthRead, ContentRead, FieldRead, is_accepted};
 
 use crate::reader::Reader;
 use definition::{HEAD, TAG_FLOAT, TAG_INTEGER, TAG_OTHER, TAG_TEXT};
@@ -68,6 +68,22 @@ pub fn field_at(list: &[u8], at: usize) -> Option<(Value, usize)>
     Reader { list, at }.field()
 }
 
+// The length that the field at an offset says, of a list that is not known to be well formed. None where the list ends before
+// so many bytes.
+fn length_at(list: &[u8], at: usize) -> Option<usize>
+    requires { at ≤ length list.now }
+    ensures { LengthRead list.now at result }
+{
+    if list.len() - at < HEAD {
+        return None;
+    }
+    let n = number_at(list, at + 1, 2) as usize;
+    if list.len() - at - HEAD < n {
+        return None;
+    }
+    Some(n)
+}
+
 // Whether a content of n bytes suits a tag.
 fn length_suits(tag: u8, n: usize) -> bool
     ensures { result ≡ suits tag n }
@@ -86,7 +102,7 @@ fn content_at(list: &[u8], at: usize) -> Option<usize>
     requires { at < length list.now }
     ensures { ContentRead list.now at result }
 {
-    let n = Reader { list, at }.length()?;
+    let n = length_at(list, at)?;
     if length_suits(list[at], n) {
         Some(n)
     } else {
@@ -114,7 +130,7 @@ pub fn fields_after(list: &[u8], k: u64) -> usize
 {
     let mut at = 0;
     for _ in 0..k {
-        let Some(n) = Reader { list, at }.length() else {
+        let Some(n) = length_at(list, at) else {
             return list.len();
         };
         at += HEAD + n;

@@ -1,7 +1,7 @@
-// The value reader: a list, and the offset of one of its fields. Every reading of a field goes through it.
-ghost use Rattle.std.specs.Prelude.{◌≡◌, true, ◌≤◌, ◌<◌, length, drop, Some};
+// The value reader: a list, and the offset of one of its fields, from which on the list is well formed.
+ghost use Rattle.std.specs.Prelude.{◌≡◌, true, ◌<◌, length, drop, Some};
 ghost use Rattle.definition.specs.Lists.{values};
-ghost use Rattle.values.specs.Meaning.{LengthRead, FieldRead, is_accepted};
+ghost use Rattle.values.specs.Meaning.{FieldRead, is_accepted};
 
 use crate::{Value, float_of, is_number, number_at};
 use definition::{HEAD, TAG_INTEGER, TAG_OTHER};
@@ -11,28 +11,13 @@ use words::to_signed;
 pub struct Reader<'a> {
     pub list: &'a [u8],
     pub at: usize,
+    ghost well_formed: { is_accepted (values (drop at list.now)) ≡ true },
 }
 
 impl<'a> Reader<'a> {
-    // The length that the field says. None where the list ends before so many bytes.
-    pub fn length(self) -> Option<usize>
-        requires { self.at ≤ length self.list.now }
-        ensures { LengthRead self.entry.list.now self.entry.at result }
-    {
-        if self.list.len() - self.at < HEAD {
-            return None;
-        }
-        let n = number_at(self.list, self.at + 1, 2) as usize;
-        if self.list.len() - self.at - HEAD < n {
-            return None;
-        }
-        Some(n)
-    }
-
-    // The field, where the list is well formed from it on and does not end there.
+    // The field, where the list does not end there.
     fn value(self) -> (Value, usize)
-        requires inside { self.at < length self.list.now }
-        requires list_sound { is_accepted (values (drop self.at self.list.now)) ≡ true }
+        requires { self.at < length self.list.now }
         ensures { FieldRead self.entry.list.now self.entry.at (Some result) }
     {
         let tag = self.list[self.at];
@@ -51,9 +36,8 @@ impl<'a> Reader<'a> {
         (Value::Text(start, n), start + n)
     }
 
-    // The field, where the list is well formed from it on. None at the list's end.
+    // The field. None at the list's end.
     pub fn field(self) -> Option<(Value, usize)>
-        requires { is_accepted (values (drop self.at self.list.now)) ≡ true }
         ensures { FieldRead self.entry.list.now self.entry.at result }
     {
         if self.at >= self.list.len() {

@@ -4,7 +4,6 @@ use native.Mathlib.Omega.{arith}
 use mathlib.Core.Path.{◌≡◌, refl, sym, ap, ◌∙◌, subst}
 use mathlib.Core.Bool.{Bool, true, false, cond}
 use mathlib.Core.List.{List, [], ◌∷◌, ◌++◌, map, map-append}
-use Rattle.std.specs.Prelude.{Ok}
 use lib.ListN.{length, drop, replicate, length-append, length-replicate, length-map}
 use lib.Seq.{paste, paste-zero}
 use Rattle.definition.specs.Answers.{Checked, refused, accepted}
@@ -17,7 +16,7 @@ use Rattle.definition.specs.declared.Setting.{Setting}
 use Rattle.definition.specs.declared.Op.{Op}
 use Rattle.values.specs.Meaning.{is_accepted}
 use Rattle.store.specs.Texts.{text_bytes, counted_bytes}
-use Rattle.plan.specs.Plans.{Wrote, Planned, ItemAt}
+use Rattle.plan.specs.Plans.{Wrote, Planned}
 use Rattle.word.specs.Words.{fill_of}
 use Rattle.plan.specs.declared.item.Plan.{Plan}
 use Rattle.plan.specs.declared.text.Text.{Text}
@@ -50,7 +49,7 @@ pub record At (l : List ℕ) (p : Progress) (op : Op) (r : Plan) : Type 0 where
   pub known : is_accepted (values (drop p.at l)) ≡ true
   pub says : Planned l p.state (values_of (drop p.at l)) op r
 
-pub planned : (l : List ℕ) (p : Progress) (op : Op) (r : Plan) → is_accepted (values (drop p.at l)) ≡ true → ItemAt l p.at p.state op (Ok r) → At l p op r
+pub planned : (l : List ℕ) (p : Progress) (op : Op) (r : Plan) → is_accepted (values (drop p.at l)) ≡ true → ((vs : List Value) → values (drop p.at l) ≡ accepted vs → Planned l p.state vs op r) → At l p op r
 planned l p op r known h = record { known = known; says = h _ (list_known (values (drop p.at l)) known) }
 
 -- the bytes that are put for a value: n zeros, and bytes, which are `size` in all

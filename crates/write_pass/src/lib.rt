@@ -17,6 +17,8 @@ use emit::{emit_counted, emit_number, emit_text, emit_zeros};
 use format::cursor::Cursor;
 use options::OptionTable;
 use plan::item::{Plan, plan_of};
+use plan::place::Place;
+use values::reader::Reader;
 
 // How far a pass has come: the state, where the list's next field starts, the values used and the items run.
 #[derive(Clone, Copy)]
@@ -75,7 +77,11 @@ fn advance(
     ensures bytes { out.new ≡ cond put (put_at out.old w (written list.now p op)) out.old }
 {
     let s = p.state;
-    match plan_of(list, p.at, s, op)? {
+    let place = Place {
+        reader: Reader { list, at: p.at },
+        state: s,
+    };
+    match plan_of(place, op)? {
         Plan::Skip => Ok(None),
         Plan::Set(x) => Ok(Some(past(p, set(s, x)))),
         Plan::Zeros(n) => {

@@ -9,12 +9,12 @@ use Rattle.plan.proofs.item.chars.Goals as goal
 use Rattle.plan.proofs.item.chars.Goals.{After-text_at}
 
 -- the first check of 9 was passed
-begun : (t : After-text_at) → let a = t.before.before.before.args in Begun a.list.now a.at a.s (Field.Chars a.n) a.p
+begun : (t : After-text_at) → let a = t.before.before.before.args in Begun a.place (Field.Chars a.n) a.p
 begun t = record { is_text = tt; padded = t.before.before.before.requires.padded; state = _; early_is = chars_room _ _ (sym t.before.before.fits.ensures ∙ t.before.if-not-fits.false) }
 
 pub returns-then-not-fits : goal.returns-then-not-fits
 returns-then-not-fits c =
-    chars_early c.args.list.now c.args.at c.args.s c.args.n c.requires.padded (sym c.fits.ensures ∙ c.if-not-fits.true)
+    chars_early c.args.place c.args.n c.requires.padded (sym c.fits.ensures ∙ c.if-not-fits.true)
 
 pub returns-in_err-text : goal.returns-in_err-text
 returns-in_err-text c =
@@ -27,7 +27,7 @@ returns-then-n-length c =
 
 pub put_text-requires-clause-small_fill : goal.put_text-requires-clause-small_fill
 put_text-requires-clause-small_fill c =
-    padding_lt c.args.s _ _ c.requires.padded
+    padding_lt c.args.place.state _ _ c.requires.padded
 
 pub returns : goal.returns
 returns c =

@@ -9,8 +9,8 @@ use Rattle.plan.proofs.Texts.{counted_long, counted_bytes_lem}
 use Rattle.plan.proofs.item.counted.Goals as goal
 use Rattle.plan.proofs.item.counted.Goals.{Start}
 
-begun : (s : Start) → Begun s.args.list.now s.args.at s.args.s (Field.Counted s.args.size) s.args.p
-begun s = record { is_text = tt; padded = s.requires.padded; state = s.args.s; early_is = refl }
+begun : (s : Start) → Begun s.args.place (Field.Counted s.args.size) s.args.p
+begun s = record { is_text = tt; padded = s.requires.padded; state = s.args.place.state; early_is = refl }
 
 pub returns-in_err-text : goal.returns-in_err-text
 returns-in_err-text c =
@@ -23,11 +23,11 @@ returns-then-not-countable c =
 
 pub put_counted-requires-clause-small_fill : goal.put_counted-requires-clause-small_fill
 put_counted-requires-clause-small_fill c =
-    padding_lt c.args.s _ _ c.requires.padded
+    padding_lt c.args.place.state _ _ c.requires.padded
 
 pub returns : goal.returns
 returns c =
     let a = c.args in
     let t = c.in_ok-text.text in
     let bytes = counted_bytes_lem _ c.in_ok-text.ensures _ (sym c.countable.ensures ∙ c.if-not-countable.false) in
-    text_planned (begun (goal.at.returns c).Start) c.in_ok-text.ensures (λ l. counted_bytes a.s.big l a.size t.start t.length) c.put_counted.result bytes c.put_counted.ensures
+    text_planned (begun (goal.at.returns c).Start) c.in_ok-text.ensures (λ l. counted_bytes a.place.state.big l a.size t.start t.length) c.put_counted.result bytes c.put_counted.ensures

@@ -8,13 +8,13 @@ returns-in_err-v c =
     let p = err_from_is_err_and c.from_residual.result c.from_residual.ensures.1 in
     let a = c.args in
     rw (p.1, p.2)
-    (number_none a.list.now a.at a.s a.kind a.size _ c.requires.padded (rw c.in_err-v.ensures.ok_part at c.field_at.ensures) (rw c.in_err-v.ensures.ok_part at c.in_err-v.ensures.value))
+    (number_none a.place a.kind a.size _ c.requires.padded (rw c.in_err-v.ensures.ok_part at c.field.ensures) (rw c.in_err-v.ensures.ok_part at c.in_err-v.ensures.value))
 
 pub put_number-requires-clause-small_fill : goal.put_number-requires-clause-small_fill
 put_number-requires-clause-small_fill c =
-    padding_lt c.args.s _ _ c.requires.padded
+    padding_lt c.args.place.state _ _ c.requires.padded
 
 pub returns : goal.returns
 returns c =
     let a = c.args in
-    number_found a.list.now a.at a.s a.kind a.size _ c.requires.padded c.put_number.result (rw c.in_ok-v.ensures.ok_part at c.field_at.ensures) c.put_number.ensures
+    number_found a.place a.kind a.size _ c.requires.padded c.put_number.result (rw c.in_ok-v.ensures.ok_part at c.field.ensures) c.put_number.ensures

@@ -12,12 +12,12 @@ overflow_add-p c =
 pub returns-in_err-p : goal.returns-in_err-p
 returns-in_err-p c =
     let p = err_from_is_err_and c.from_residual.result c.from_residual.ensures.1 in
-    rw (p.1, p.2) (λ l vs. pad_unaligned c.args.s vs _ _ _ (sym c.in_err-p.ensures))
+    rw (p.1, p.2) (λ vs known. pad_unaligned c.args.place.state vs _ _ _ (sym c.in_err-p.ensures))
 
 pub returns-then-not-fits : goal.returns-then-not-fits
 returns-then-not-fits c =
-    λ l vs. pad_long c.args.s vs _ _ _ (sym c.in_ok-p.ensures) (sym c.fits.ensures ∙ c.if-not-fits.true)
+    λ vs known. pad_long c.args.place.state vs _ _ _ (sym c.in_ok-p.ensures) (sym c.fits.ensures ∙ c.if-not-fits.true)
 
 pub returns : goal.returns
 returns c =
-    λ l vs. pad_zeros c.args.s vs _ _ _ (sym c.in_ok-p.ensures) (sym c.fits.ensures ∙ c.if-not-fits.false)
+    λ vs known. pad_zeros c.args.place.state vs _ _ _ (sym c.in_ok-p.ensures) (sym c.fits.ensures ∙ c.if-not-fits.false)

@@ -7,14 +7,14 @@ use Rattle.plan.proofs.item.plan_of.Goals as goal
 
 pub returns-in-Blank : goal.returns-in-Blank
 returns-in-Blank c =
-    let a = c.args in of_op a.list.now a.at a.s a.op Op.Blank (Ok Plan.Skip) (skips a.list.now a.at a.s) c.in-Blank.is
+    let a = c.args in of_op a.place a.op Op.Blank (Ok Plan.Skip) (skips a.place) c.in-Blank.is
 
 pub returns-in-Set : goal.returns-in-Set
 returns-in-Set c =
     let a = c.args in
     let x = c.in-Set.x in
-    of_op a.list.now a.at a.s a.op (Op.Set x) (Ok (Plan.Set x)) (sets_state a.list.now a.at a.s x) c.in-Set.is
+    of_op a.place a.op (Op.Set x) (Ok (Plan.Set x)) (sets_state a.place x) c.in-Set.is
 
 pub returns-in-Pad : goal.returns-in-Pad
 returns-in-Pad c =
-    let a = c.args in of_op a.list.now a.at a.s a.op _ c.pad.result (λ vs known. c.pad.ensures a.list.now vs) c.in-Pad.is
+    let a = c.args in of_op a.place a.op _ c.pad.result c.pad.ensures c.in-Pad.is

@@ -7,9 +7,9 @@ use Rattle.plan.proofs.item.put_counted.Goals as goal
 pub returns-then-not-fits_few : goal.returns-then-not-fits_few
 returns-then-not-fits_few c =
     let a = c.args in
-    text_long a.s a.p a.text _ _ (λ l within. counted_length l a.text.start a.text.length within a.s.big a.size) (sym c.fits_few.ensures ∙ c.if-not-fits_few.true)
+    text_long a.place.state a.p a.text _ _ (λ l within. counted_length l a.text.start a.text.length within a.place.state.big a.size) (sym c.fits_few.ensures ∙ c.if-not-fits_few.true)
 
 pub returns : goal.returns
 returns c =
     let a = c.args in
-    text_put a.s a.p a.text _ _ (λ l within. counted_length l a.text.start a.text.length within a.s.big a.size) (sym c.fits_few.ensures ∙ c.if-not-fits_few.false)
+    text_put a.place.state a.p a.text _ _ (λ l within. counted_length l a.text.start a.text.length within a.place.state.big a.size) (sym c.fits_few.ensures ∙ c.if-not-fits_few.false)

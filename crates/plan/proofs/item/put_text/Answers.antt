@@ -7,9 +7,9 @@ use Rattle.plan.proofs.item.put_text.Goals as goal
 pub returns-then-not-fits : goal.returns-then-not-fits
 returns-then-not-fits c =
     let a = c.args in
-    text_long a.s a.p a.text _ _ (λ l within. text_length l a.text.start a.text.length within a.zeros) (sym c.fits.ensures ∙ c.if-not-fits.true)
+    text_long a.place.state a.p a.text _ _ (λ l within. text_length l a.text.start a.text.length within a.zeros) (sym c.fits.ensures ∙ c.if-not-fits.true)
 
 pub returns : goal.returns
 returns c =
     let a = c.args in
-    text_put a.s a.p a.text _ _ (λ l within. text_length l a.text.start a.text.length within a.zeros) (sym c.fits.ensures ∙ c.if-not-fits.false)
+    text_put a.place.state a.p a.text _ _ (λ l within. text_length l a.text.start a.text.length within a.zeros) (sym c.fits.ensures ∙ c.if-not-fits.false)

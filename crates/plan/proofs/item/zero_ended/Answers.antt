@@ -9,8 +9,8 @@ use Rattle.plan.proofs.Texts.{zero_ended_zero, zero_ended_bytes}
 use Rattle.plan.proofs.item.zero_ended.Goals as goal
 use Rattle.plan.proofs.item.zero_ended.Goals.{Start}
 
-begun : (s : Start) → Begun s.args.list.now s.args.at s.args.s Field.ZeroEnded s.args.p
-begun s = record { is_text = tt; padded = s.requires.padded; state = s.args.s; early_is = refl }
+begun : (s : Start) → Begun s.args.place Field.ZeroEnded s.args.p
+begun s = record { is_text = tt; padded = s.requires.padded; state = s.args.place.state; early_is = refl }
 
 pub returns-in_err-text : goal.returns-in_err-text
 returns-in_err-text c =
@@ -23,7 +23,7 @@ returns-then-has_zero c =
 
 pub put_text-requires-clause-small_fill : goal.put_text-requires-clause-small_fill
 put_text-requires-clause-small_fill c =
-    padding_lt c.args.s _ _ c.requires.padded
+    padding_lt c.args.place.state _ _ c.requires.padded
 
 pub returns : goal.returns
 returns c =

@@ -6,10 +6,10 @@ use Rattle.plan.proofs.text.text_at.Goals as goal
 pub returns-in_err-value : goal.returns-in_err-value
 returns-in_err-value c =
     let p = err_from_is_err_and c.from_residual.result c.from_residual.ensures.1 in
-    rw (p.1, p.2) (text_none _ _ (rw c.in_err-value.ensures.ok_part at c.field_at.ensures) (rw c.in_err-value.ensures.ok_part at c.in_err-value.ensures.value))
+    rw (p.1, p.2) (text_none _ _ (rw c.in_err-value.ensures.ok_part at c.field.ensures) (rw c.in_err-value.ensures.ok_part at c.in_err-value.ensures.value))
 
 pub returns-in_default : goal.returns-in_default
-returns-in_default c = text_other _ _ _ _ (rw c.in_ok-value.ensures.ok_part at c.field_at.ensures) c.in_default.not-Text
+returns-in_default c = text_other _ _ _ _ (rw c.in_ok-value.ensures.ok_part at c.field.ensures) c.in_default.not-Text
 
 pub returns : goal.returns
-returns c = text_found _ _ _ _ _ (rw (c.in_ok-value.ensures.ok_part, c.in-Text.is) at c.field_at.ensures)
+returns c = text_found _ _ _ _ _ (rw (c.in_ok-value.ensures.ok_part, c.in-Text.is) at c.field.ensures)

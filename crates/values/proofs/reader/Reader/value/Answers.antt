@@ -5,31 +5,32 @@ use Rattle.values.proofs.reader.Reader.value.Goals as goal
 
 pub number_at-b-requires : goal.number_at-b-requires
 number_at-b-requires c =
-    let l = c.args.self.list.now in
-    let r = c.requires in
-    (lit≤ tt, omega (arith, eight l c.args.self.at r.list_sound r.inside (sym c.is_number.ensures ∙ c.if-is_number.true), within l c.args.self.at r.list_sound r.inside))
+    let r = c.args.self in
+    (lit≤ tt, omega (arith, eight r.list.now r.at r.well_formed c.requires (sym c.is_number.ensures ∙ c.if-is_number.true), within r.list.now r.at r.well_formed c.requires))
 
 pub returns-then-tag-eq-TAG_INTEGER : goal.returns-then-tag-eq-TAG_INTEGER
 returns-then-tag-eq-TAG_INTEGER c =
     let b = c.number_at-b in
-    let r = c.requires in
+    let r = c.args.self in
     let numbered = sym c.is_number.ensures ∙ c.if-is_number.true in
-    rw (to_z-of_z (record { sfits = c.to_signed.type_inv }), c.to_signed.ensures) (integer_field c.args.self.list.now c.args.self.at r.list_sound r.inside numbered b.result b.ensures c.if-tag-eq-TAG_INTEGER.true)
+    rw (to_z-of_z (record { sfits = c.to_signed.type_inv }), c.to_signed.ensures) (integer_field r.list.now r.at r.well_formed c.requires numbered b.result b.ensures c.if-tag-eq-TAG_INTEGER.true)
 
 pub returns-then-is_number : goal.returns-then-is_number
 returns-then-is_number c =
     let b = c.number_at-b in
-    let r = c.requires in
+    let r = c.args.self in
     let numbered = sym c.is_number.ensures ∙ c.if-is_number.true in
-    float_field c.args.self.list.now c.args.self.at r.list_sound r.inside numbered b.result b.ensures c.if-tag-eq-TAG_INTEGER.false c.float_of.result c.float_of.ensures
+    float_field r.list.now r.at r.well_formed c.requires numbered b.result b.ensures c.if-tag-eq-TAG_INTEGER.false c.float_of.result c.float_of.ensures
 
 pub returns-then-tag-eq-TAG_OTHER : goal.returns-then-tag-eq-TAG_OTHER
-returns-then-tag-eq-TAG_OTHER c = other_field c.args.self.list.now c.args.self.at c.requires.list_sound c.requires.inside c.if-tag-eq-TAG_OTHER.true
+returns-then-tag-eq-TAG_OTHER c =
+    let r = c.args.self in other_field r.list.now r.at r.well_formed c.requires c.if-tag-eq-TAG_OTHER.true
 
 pub number_at-n-requires : goal.number_at-n-requires
-number_at-n-requires c = (lit≤ tt, omega (arith, within c.args.self.list.now c.args.self.at c.requires.list_sound c.requires.inside))
+number_at-n-requires c =
+    let r = c.args.self in (lit≤ tt, omega (arith, within r.list.now r.at r.well_formed c.requires))
 
 pub returns : goal.returns
 returns c =
-    let r = c.requires in
-    text_field c.args.self.list.now c.args.self.at r.list_sound r.inside (sym c.is_number.ensures ∙ c.if-is_number.false) c.if-tag-eq-TAG_OTHER.false c.number_at-n.result c.number_at-n.ensures
+    let r = c.args.self in
+    text_field r.list.now r.at r.well_formed c.requires (sym c.is_number.ensures ∙ c.if-is_number.false) c.if-tag-eq-TAG_OTHER.false c.number_at-n.result c.number_at-n.ensures
