@@ -1,7 +1,7 @@
 -- The bytes of a text option are what the definition encodes, and without a text there are 11 and 12.
 use Prim.Native.Nat.{ℕ, ◌+◌, ◌-◌, ◌^◌, ◌≤◌, ◌<◌}
 use native.Mathlib.Omega.{arith}
-use mathlib.Core.Path.{◌≡◌, refl, sym, ap, ◌∙◌}
+use mathlib.Core.Path.{◌≡◌, refl, sym, ap}
 use mathlib.Core.Bool.{Bool, true, false}
 use mathlib.Core.List.{List}
 use mathlib.Core.Option.{none}
@@ -15,7 +15,6 @@ use Rattle.definition.specs.Bytes.{laid}
 use Rattle.definition.specs.Ops.{within16}
 use Rattle.definition.specs.Values as definition
 use Rattle.definition.specs.Values.{text, as_bytes}
-use Rattle.definition.specs.Lists.{values}
 use Rattle.definition.specs.Fields.{encode, has_zero}
 use Rattle.definition.specs.declared.Field.{Field}
 use Rattle.definition.specs.declared.Refusal.{Refusal}

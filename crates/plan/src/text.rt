@@ -8,7 +8,7 @@ use values::Value;
 use values::reader::Reader;
 
 // A text of the list: where it starts, its length, and where the list's next field starts.
-// A place and not the bytes, since a plan is made by functions that don't see the list.
+// A place and not the bytes: what makes a plan says it of every list that has the text there.
 #[derive(Clone, Copy)]
 pub struct Text {
     pub start: usize,

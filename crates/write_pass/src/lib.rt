@@ -77,6 +77,7 @@ fn advance(
     ensures bytes { out.new ≡ cond put (put_at out.old w (written list.now p op)) out.old }
 {
     let s = p.state;
+    // Made anew for each item: the loop carries only the offset and the state.
     let place = Place {
         reader: Reader { list, at: p.at },
         state: s,
