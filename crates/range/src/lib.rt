@@ -9,7 +9,7 @@ ghost use Rattle.options.specs.Packed.{table_at};
 ghost use Rattle.lengths.specs.Lengths as ranges;
 ghost use Rattle.range.specs.Extents.{left_of, text_extents};
 
-use align::{longer, natural, padding, parts, set, start, state};
+use align::{longer, natural, padding, set, start, state};
 use definition::{Field, Op, Refusal, State};
 use format::cursor::Cursor;
 use lengths::Range;
@@ -102,17 +102,6 @@ impl<'a> Place<'a> {
         }
     }
 
-    // The same place, made anew of its parts, for the reason that align's `parts` gives.
-    fn parts(self) -> Place<'a>
-        ensures { places_of result ≡ places_of self.entry }
-    {
-        Place {
-            greatest: parts(self.greatest),
-            least: self.least,
-            pairs: self.pairs,
-        }
-    }
-
     // The zeros before what has a natural alignment, behind the least length and behind the greatest.
     fn paddings(self, natural: u64) -> Result<Range, Refusal>
         requires { 1 ≤ natural }
@@ -189,7 +178,7 @@ fn range_by(table: &OptionTable, format: &[u8], pairs: &[u8]) -> Result<Range, R
     let mut c = Cursor::new();
     let mut p = Place::first(pairs);
     while let Some((item, next)) = c.next(table, format)? {
-        p = p.step(item.op())?.parts();
+        p = p.step(item.op())?;
         c = next;
     }
     Ok(Range {

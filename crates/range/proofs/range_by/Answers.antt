@@ -21,18 +21,18 @@ pub step-requires : goal.step-requires
 step-requires c =
     run_valid c.loop-item.invariant (rw c.in-Some.is at c.in_ok-item.ensures) c.op.ensures c.args.table.now.sizes
 
-pub returns-in_err-step : goal.returns-in_err-step
+pub returns-in_err-p : goal.returns-in_err-p
 unfolding range_by
-returns-in_err-step c =
-    let p = err_from_is_err_and c.from_residual-in_err-step.result c.from_residual-in_err-step.ensures.1 in
-    rw (p.1, p.2) (ap lengths_of (run_refused c.loop-item.invariant (rw c.in-Some.is at c.in_ok-item.ensures) c.op.ensures c.in_err-step.ensures))
+returns-in_err-p c =
+    let p = err_from_is_err_and c.from_residual-in_err-p.result c.from_residual-in_err-p.ensures.1 in
+    rw (p.1, p.2) (ap lengths_of (run_refused c.loop-item.invariant (rw c.in-Some.is at c.in_ok-item.ensures) c.op.ensures c.in_err-p.ensures))
 
 pub loop-item-smaller : goal.loop-item-smaller
 loop-item-smaller c = run_less c.loop-item.invariant (rw c.in-Some.is at c.in_ok-item.ensures) c.op.ensures
 
 pub loop-item-preserved : goal.loop-item-preserved
 loop-item-preserved c =
-    rw c.parts-p.ensures (run_on c.loop-item.invariant (rw c.in-Some.is at c.in_ok-item.ensures) c.op.ensures c.in_ok-step.ensures refl)
+    run_on c.loop-item.invariant (rw c.in-Some.is at c.in_ok-item.ensures) c.op.ensures c.in_ok-p.ensures refl
 
 pub returns : goal.returns
 unfolding range_by
