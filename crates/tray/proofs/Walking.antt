@@ -27,33 +27,29 @@ use Rattle.tray.specs.Walks.{bytes_from, tray_from, refused_at, Counted, put_in,
 
 -- ---- the first walk
 
--- the records before the offset `at`, where the place is p, have these bytes, of which `total` is the count
-pub record Checking (s : State) (f r : List ℕ) (at p total : ℕ) : Type 0 where
+-- the records before the rest q, where the place is p, have these bytes, of which `total` is the count
+pub record Checking (s : State) (f r q : List ℕ) (p total : ℕ) : Type 0 where
   pub bytes : List ℕ
-  pub so_far : tray_from s f r ≡ behind bytes (records_from s p f (lists (drop at r)))
+  pub so_far : tray_from s f r ≡ behind bytes (records_from s p f (lists q))
   pub counts : SameTo63 total (length bytes)
-  pub within : at ≤ length r
-  pub few : p ≤ at + 1
+  pub few : p + length q ≤ length r + 1
 
-module _ {s : State} {f r : List ℕ} {at p total : ℕ} (w : Checking s f r at p total) where
-  pub checking_end : lists (drop at r) ≡ accepted [] → Counted (tray_from s f r) total
+module _ {s : State} {f r q : List ℕ} {p total : ℕ} (w : Checking s f r q p total) where
+  pub checking_end : lists q ≡ accepted [] → Counted (tray_from s f r) total
   unfolding records
   checking_end e = record { bytes = w.bytes; is = w.so_far ∙ rw (e, append-nil w.bytes); counts = w.counts }
 
-  -- the list at the offset, and the run behind it
-  module _ {from next : ℕ} (here : Stands r at from next) where
-    abbrev l : List ℕ
-    l = take (next - from) (drop from r)
-
-    pub checking_refused : {k : ℕ} → refused k ≡ summed (pack s f l) → tray_from s f r ≡ refused_at k p (lists (drop next r))
+  -- the first list of it, and the run behind it
+  module _ {l rest : List ℕ} (here : Stands q l rest) where
+    pub checking_refused : {k : ℕ} → refused k ≡ summed (pack s f l) → tray_from s f r ≡ refused_at k p (lists rest)
     unfolding records
-    checking_refused {k} e = w.so_far ∙ ap (λ (c : Checked (List (List ℕ))). behind w.bytes (records_from s p f c)) here.first ∙ go (lists (drop next r))
+    checking_refused {k} e = w.so_far ∙ ap (λ (c : Checked (List (List ℕ))). behind w.bytes (records_from s p f c)) here.first ∙ go (lists rest)
       where
         go : (c : Checked (List (List ℕ))) → behind w.bytes (records_from s p f (following l c)) ≡ refused_at k p c
         go (refused j) = refl
         go (accepted ls) = rw (refused_bind (pack s f l) continued_of k (sym e))
 
-    pub checking_on : {c : Continued} {n : ℕ} → accepted c ≡ summed (pack s f l) → ((m : ℕ) → SameTo63 total m → SameTo63 n (m + c.written)) → Checking s f r next (p + 1) n
+    pub checking_on : {c : Continued} {n : ℕ} → accepted c ≡ summed (pack s f l) → ((m : ℕ) → SameTo63 total m → SameTo63 n (m + c.written)) → Checking s f r rest (p + 1) n
     unfolding records
     checking_on {c} {n} e h =
         let b = bound (pack s f l) (λ x. accepted (continued_of x)) (sym e) in
@@ -63,10 +59,9 @@ module _ {s : State} {f r : List ℕ} {at p total : ℕ} (w : Checking s f r at 
         let go : (c : Checked (List (List ℕ))) → behind w.bytes (records_from s p f (following l c)) ≡ behind (w.bytes ++ x) (records_from s (p + 1) f c) = on b.val b.is in
         record {
           bytes = w.bytes ++ x;
-          so_far = w.so_far ∙ ap (λ (c : Checked (List (List ℕ))). behind w.bytes (records_from s p f c)) here.first ∙ go (lists (drop next r));
+          so_far = w.so_far ∙ ap (λ (c : Checked (List (List ℕ))). behind w.bytes (records_from s p f c)) here.first ∙ go (lists rest);
           counts = rw long (h (length w.bytes) w.counts);
-          within = here.within;
-          few = omega (arith, w.few, here.ahead, here.ends);
+          few = omega (arith, w.few, here.lengths);
         }
       where
         on : (v : Place Value × Output) → pack s f l ≡ accepted v → (c : Checked (List (List ℕ))) → behind w.bytes (records_from s p f (following l c)) ≡ behind (w.bytes ++ record_of v.1) (records_from s (p + 1) f c)
@@ -75,9 +70,9 @@ module _ {s : State} {f r : List ℕ} {at p total : ℕ} (w : Checking s f r at 
 
 -- ---- a record's refusal, once it is known whether the run behind it is one
 
-module _ (k p : ℕ) (r : List ℕ) (at : ℕ) where
-  pub refused_false : is_accepted (lists (drop at r)) ≡ false → refused_at k p (lists (drop at r)) ≡ placed 0 (refused 23)
-  refused_false e = go (lists (drop at r)) (lists_23 (drop at r)) e
+module _ (k p : ℕ) (r : List ℕ) where
+  pub refused_false : is_accepted (lists r) ≡ false → refused_at k p (lists r) ≡ placed 0 (refused 23)
+  refused_false e = go (lists r) (lists_23 r) e
     where
       go : (c : Checked (List (List ℕ))) → By23 c → is_accepted c ≡ false → refused_at k p c ≡ placed 0 (refused 23)
       go (refused j) (low h) e = ap (λ (x : ℕ). placed 0 (refused x)) (eqb→eq j 23 h)
@@ -85,57 +80,53 @@ module _ (k p : ℕ) (r : List ℕ) (at : ℕ) where
 
 -- ---- the second walk
 
--- the records before the offset `at` stand at the front of the buffer, which was d and is b, and the others fit behind them
-pub record Putting (s : State) (f r d : List ℕ) (at end : ℕ) (b : List ℕ) : Type 0 where
+-- the records before the rest q stand at the front of the buffer, which was d and is b, and the others fit behind them
+pub record Putting (s : State) (f r d q : List ℕ) (end : ℕ) (b : List ℕ) : Type 0 where
   pub done : List ℕ
   pub left : List ℕ
   pub place : ℕ
   pub whole : tray_from s f r ≡ placed 0 (accepted (done ++ left))
-  pub so_far : records_from s place f (lists (drop at r)) ≡ placed 0 (accepted left)
+  pub so_far : records_from s place f (lists q) ≡ placed 0 (accepted left)
   pub ends : end ≡ length done
-  pub within : at ≤ length r
   pub room : length done + length left ≤ length d
   pub buffer : b ≡ done ++ drop end d
 
-module _ {s : State} {f r d : List ℕ} {at end : ℕ} {b : List ℕ} (w : Putting s f r d at end b) where
+module _ {s : State} {f r d q : List ℕ} {end : ℕ} {b : List ℕ} (w : Putting s f r d q end b) where
   putting_length : length b ≡ length d
   putting_length = ap length w.buffer ∙ length-append w.done (drop end d) ∙ omega (arith, length-drop end d, w.room, w.ends)
 
   -- nothing is left, and so the buffer has all
-  pub putting_end : lists (drop at r) ≡ accepted [] → b ≡ put_in d (tray_from s f r).answer
+  pub putting_end : lists q ≡ accepted [] → b ≡ put_in d (tray_from s f r).answer
   unfolding records
   putting_end e =
       let none : [] ≡ w.left = same (ap (λ (t : Placed (List ℕ)). t.answer) (ap (records_from s w.place f) (sym e) ∙ w.so_far)) in
       w.buffer ∙ rw (w.whole, ← none, append-nil w.done, w.ends)
 
-  -- the list at the offset, and the run behind it
-  module _ {from next : ℕ} (here : Stands r at from next) where
-    abbrev list : List ℕ
-    list = take (next - from) (drop from r)
-
+  -- the first list of it, and the run behind it
+  module _ {list rest : List ℕ} (here : Stands q list rest) where
     -- its record is accepted, and the first of those that are left
     record Item : Type 0 where
       accepts : is_accepted (pack s f list) ≡ true
       more : List ℕ
       parts : w.left ≡ bytes_from s f list ++ more
-      rest : records_from s (w.place + 1) f (lists (drop next r)) ≡ placed 0 (accepted more)
+      others : records_from s (w.place + 1) f (lists rest) ≡ placed 0 (accepted more)
 
     item : Item
     unfolding records
-    item = go (lists (drop next r)) refl (ap (records_from s w.place f) (sym here.first) ∙ w.so_far)
+    item = go (lists rest) refl (ap (records_from s w.place f) (sym here.first) ∙ w.so_far)
       where
         answered : (x : List ℕ) (t : Placed (List ℕ)) (c : Checked (List ℕ)) → t.answer ≡ c → behind x t ≡ placed 0 (accepted w.left) → (more : List ℕ) × (w.left ≡ x ++ more) × (t ≡ placed 0 (accepted more))
         answered x t (refused k) i e = absurd (never (ap (λ (y : Placed (List ℕ)). y.answer) (rw i at e)))
         answered x t (accepted more) i e = (more, sym (same (ap (λ (y : Placed (List ℕ)). y.answer) (rw i at e))), ap (λ (n : ℕ). placed n t.answer) (ap (λ (y : Placed (List ℕ)). y.place) e) ∙ ap (placed 0) i)
 
-        written : (ls : List (List ℕ)) → lists (drop next r) ≡ accepted ls → (c : Checked (Place Value × Output)) → pack s f list ≡ c → before w.place c (records s (w.place + 1) f ls) ≡ placed 0 (accepted w.left) → Item
+        written : (ls : List (List ℕ)) → lists rest ≡ accepted ls → (c : Checked (Place Value × Output)) → pack s f list ≡ c → before w.place c (records s (w.place + 1) f ls) ≡ placed 0 (accepted w.left) → Item
         written ls i (refused k) j e = absurd (never (ap (λ (y : Placed (List ℕ)). y.answer) e))
         written ls i (accepted v) j e =
             let t = records s (w.place + 1) f ls in
             let a = answered (record_of v.1) t t.answer refl e in
-            record { accepts = rw j; more = a.0; parts = a.1 ∙ rw j; rest = rw i a.2 }
+            record { accepts = rw j; more = a.0; parts = a.1 ∙ rw j; others = rw i a.2 }
 
-        go : (c : Checked (List (List ℕ))) → lists (drop next r) ≡ c → records_from s w.place f (following list c) ≡ placed 0 (accepted w.left) → Item
+        go : (c : Checked (List (List ℕ))) → lists rest ≡ c → records_from s w.place f (following list c) ≡ placed 0 (accepted w.left) → Item
         go (refused k) i e = absurd (never (ap (λ (y : Placed (List ℕ)). y.answer) e))
         go (accepted ls) i e = written ls i (pack s f list) refl e
 
@@ -162,7 +153,7 @@ module _ {s : State} {f r d : List ℕ} {at end : ℕ} {b : List ℕ} (w : Putti
           let none : drop (length b - end) (drop end b) ≡ [] = drop_of_length-le (drop end b) no_more in
           rw (none, append-nil part, p, all, front, back, drop-drop n end d) (sym (append_assoc w.done (bytes_from s f list) (drop (end + n) d)))
 
-      pub putting_on : Putting s f r d next (end + n) (take end b ++ (part ++ drop (length b - end) (drop end b)))
+      pub putting_on : Putting s f r d rest (end + n) (take end b ++ (part ++ drop (length b - end) (drop end b)))
       putting_on =
           let x = bytes_from s f list in
           record {
@@ -170,9 +161,8 @@ module _ {s : State} {f r d : List ℕ} {at end : ℕ} {b : List ℕ} (w : Putti
             left = item.more;
             place = w.place + 1;
             whole = w.whole ∙ ap (λ (y : List ℕ). placed 0 (accepted y)) (ap (λ (y : List ℕ). w.done ++ y) item.parts ∙ sym (append_assoc w.done x item.more));
-            so_far = item.rest;
+            so_far = item.others;
             ends = omega (arith, e, w.ends, length-append w.done x);
-            within = here.within;
             room = omega (arith, lengths, w.room, length-append w.done x);
             buffer = stored;
           }

@@ -1,7 +1,7 @@
 // A tray: the records of one format with each value list of a run, back to back.
 #![tactic(auto)]
 
-ghost use Rattle.std.specs.Prelude.{◌≡◌, ◌++◌, ◌≤◌, length, drop};
+ghost use Rattle.std.specs.Prelude.{◌≡◌, ◌++◌, length, drop};
 ghost use Rattle.definition.specs.Options.{options};
 ghost use Rattle.definition.specs.Calls.{pack};
 ghost use Rattle.definition.specs.Refusals.{answer_of, refusal_number};
@@ -47,11 +47,10 @@ struct Packing<'a> {
 }
 
 // A record's refusal with its place, unless the rest of the run is damaged.
-fn refused_at(run: &[u8], next: usize, refusal: Refusal, place: u64) -> TrayRefusal
-    requires { next ≤ length run.now }
-    ensures { placed_of result ≡ refused_at (refusal_number refusal) place (lists (drop next run.now)) }
+fn refused_at(rest: &[u8], refusal: Refusal, place: u64) -> TrayRefusal
+    ensures { placed_of result ≡ refused_at (refusal_number refusal) place (lists rest.now) }
 {
-    if is_run(run, next) {
+    if is_run(rest) {
         TrayRefusal { refusal, place }
     } else {
         TrayRefusal::from(Refusal::DamagedRun)
@@ -85,17 +84,17 @@ impl Packing<'_> {
         ensures tray { Told (tray_from self.entry.state self.entry.format.now run.now) result }
         ensures bytes { out.new ≡ out.old }
     {
-        let mut at = 0;
+        let mut left = run;
         let mut place = 1;
         let mut total = 0;
-        while let Some((from, next)) = list_at(run, at)? {
+        while let Some((list, rest)) = list_at(left)? {
             // Not `map_err`: what its closure gave has no name in a proof but Rattle's own, which may change.
-            match self.check_record(&run[from..next], out) {
-                Err(refusal) => return Err(refused_at(run, next, refusal, place)),
+            match self.check_record(list, out) {
+                Err(refusal) => return Err(refused_at(rest, refusal, place)),
                 Ok(record) => total = sum(total, record.written),
             }
             place += 1;
-            at = next;
+            left = rest;
         }
         Ok(total)
     }
@@ -105,11 +104,11 @@ impl Packing<'_> {
         requires { Fits (tray_from self.state self.format.now run.now) (length out.old) }
         ensures { out.new ≡ put_in out.old (tray_from self.entry.state self.entry.format.now run.now).answer }
     {
-        let mut at = 0;
+        let mut left = run;
         let mut end = 0;
-        while let Some((from, next)) = list_at(run, at).unwrap() {
-            end += self.put_record(&run[from..next], &mut out[end..]);
-            at = next;
+        while let Some((list, rest)) = list_at(left).unwrap() {
+            end += self.put_record(list, &mut out[end..]);
+            left = rest;
         }
     }
 }

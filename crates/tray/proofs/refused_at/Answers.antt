@@ -6,4 +6,4 @@ use Rattle.tray.proofs.refused_at.Goals as goal
 
 pub returns-else-is_run : goal.returns-else-is_run
 returns-else-is_run c =
-    ap placed_of c.from.ensures ∙ sym (refused_false _ c.args.place c.args.run.now c.args.next (sym c.is_run.ensures ∙ c.if-is_run.false))
+    ap placed_of c.from.ensures ∙ sym (refused_false _ c.args.place c.args.rest.now (sym c.is_run.ensures ∙ c.if-is_run.false))
