@@ -12,6 +12,7 @@ ghost use Rattle.read_pass.specs.Runs.{size_of, Short, Checks, Fits, list_after}
 use align::{at_offset, offset_in, parts, sum};
 use decode::Reading;
 use definition::{Offset, Refusal, State};
+use fetch::place::Place;
 use fetch::{Fetched, read_op};
 use fields::{put_float, put_integer, put_text};
 use format::cursor::Cursor;
@@ -72,7 +73,9 @@ pub fn pass(
     let mut total: u64 = 0;
     while let Some((item, next)) = c.next(table, format)? {
         c = next;
-        match read_op(data, s, item.op())? {
+        // Made anew for each item: the loop carries only the state.
+        let place = Place { data, state: s };
+        match read_op(place, item.op())? {
             Fetched::Set(t) => s = parts(t),
             Fetched::Read(r, end) => {
                 if put {

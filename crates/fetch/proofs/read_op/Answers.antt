@@ -4,10 +4,10 @@ use Rattle.fetch.proofs.Places.{blank_op, set_op, pad_op_refused, pad_op}
 use Rattle.fetch.proofs.read_op.Goals as goal
 
 pub returns-in-Blank : goal.returns-in-Blank
-returns-in-Blank c = rw c.in-Blank.is (blank_op _ _ c.requires.stands)
+returns-in-Blank c = rw c.in-Blank.is (blank_op _ _ (c.args.place.inside, c.args.place.limited))
 
 pub returns-in-Set : goal.returns-in-Set
-returns-in-Set c = rw c.in-Set.is (set_op _ _ c.requires.stands _ (rw c.in-Set.is at c.requires.valid_op) c.set.ensures)
+returns-in-Set c = rw c.in-Set.is (set_op _ _ (c.args.place.inside, c.args.place.limited) _ (rw c.in-Set.is at c.requires) c.set.ensures)
 
 pub returns-in_err-read_pad-in-Pad : goal.returns-in_err-read_pad-in-Pad
 returns-in_err-read_pad-in-Pad c =
@@ -15,4 +15,4 @@ returns-in_err-read_pad-in-Pad c =
     rw (p.1, p.2, c.in-Pad.is) (pad_op_refused c.in_err-read_pad-in-Pad.ensures)
 
 pub returns-in_ok-read_pad-in-Pad : goal.returns-in_ok-read_pad-in-Pad
-returns-in_ok-read_pad-in-Pad c = rw c.in-Pad.is (pad_op c.requires.stands.1 c.in_ok-read_pad-in-Pad.ensures c.at_offset.ensures)
+returns-in_ok-read_pad-in-Pad c = rw c.in-Pad.is (pad_op c.args.place.limited c.in_ok-read_pad-in-Pad.ensures c.at_offset.ensures)

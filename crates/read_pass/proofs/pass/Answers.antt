@@ -30,9 +30,9 @@ returns-in_err-item c =
     let r = passing_refusal c.loop-item.invariant (sym c.in_err-item.ensures) in
     record { total = rw (p.1, p.2) r.0; list = r.1 }
 
-pub read_op-requires-clause-valid_op : goal.read_op-requires-clause-valid_op
-read_op-requires-clause-valid_op c =
-    valid (table_at c.args.table.now.entries) c.args.format.now c.loop-item.c.at (item (goal.at.read_op-requires-clause-valid_op c).After-op) c.args.table.now.sizes
+pub read_op-requires : goal.read_op-requires
+read_op-requires c =
+    valid (table_at c.args.table.now.entries) c.args.format.now c.loop-item.c.at (item (goal.at.read_op-requires c).After-op) c.args.table.now.sizes
 
 pub returns-in_err-t : goal.returns-in_err-t
 returns-in_err-t c =
