@@ -1,15 +1,17 @@
 // The value of a field's bytes: 17, then 18 or 19, then 20.
 #![tactic(auto)]
 
-ghost use Rattle.std.specs.Prelude.{◌≡◌, Bool, ◌==◌, ◌+◌, ◌≤◌, T, length, position, Ok};
+ghost use Rattle.std.specs.Prelude.{◌≡◌, Bool, ◌==◌, T, position};
 ghost use Rattle.definition.specs.declared.Field.TheVariants as field;
-ghost use Rattle.definition.specs.declared.Kind.TheVariants as kind;
 ghost use Rattle.laws.proofs.Numbers.{valid_size};
-ghost use Rattle.decode.specs.Readings.{Within, Decodes};
+ghost use Rattle.decode.specs.Readings.{Decodes};
+
+pub mod rest;
 
 use definition::{Kind, Offset, Refusal};
 use load::{get_signed, get_unsigned, get_word};
 use position::{further, left};
+use rest::Rest;
 use single::from_single;
 use words::to_signed;
 
@@ -28,94 +30,64 @@ pub struct Decoded {
     pub size: u64,
 }
 
-// Below, the data and an offset in it stay two arguments: a text is told by its offset in the whole data, which a slice that
-// begins at the offset does not know.
-
 // The length of the longest text that a value list holds.
 const MAX_TEXT: u64 = 65535;
 
-// b h i l j
-fn signed(data: &[u8], at: Offset, big: bool, size: u64) -> Result<Decoded, Refusal>
-    requires { at.0 + size ≤ length «data».now }
-    ensures { Decodes «data».now at big (field.Number kind.Signed size) result }
-{
-    let bytes = &data[at.0 as usize..(at.0 + size) as usize];
-    let z = get_signed(bytes, big).ok_or(Refusal::IntegerTooWide)?;
-    Ok(Decoded {
-        reading: Reading::Integer(z),
-        size,
-    })
-}
-
-// B H I L J T
-fn unsigned(data: &[u8], at: Offset, big: bool, size: u64) -> Result<Decoded, Refusal>
-    requires { at.0 + size ≤ length «data».now }
-    ensures { Decodes «data».now at big (field.Number kind.Unsigned size) result }
-{
-    let bytes = &data[at.0 as usize..(at.0 + size) as usize];
-    let word = get_unsigned(bytes, big).ok_or(Refusal::IntegerTooWide)?;
-    Ok(Decoded {
-        reading: Reading::Integer(to_signed(word)),
-        size,
-    })
-}
-
-// f
-fn single(data: &[u8], at: Offset, big: bool) -> Decoded
-    requires { at.0 + 4 ≤ length «data».now }
-    ensures { Decodes «data».now at big (field.Number kind.Single 4) (Ok result) }
-{
-    let word = get_word(&data[at.0 as usize..(at.0 + 4) as usize], big);
-    Decoded {
-        reading: Reading::Float(from_single(word as u32)),
-        size: 4,
-    }
-}
-
-// d n
-fn double(data: &[u8], at: Offset, big: bool) -> Decoded
-    requires { at.0 + 8 ≤ length «data».now }
-    ensures { Decodes «data».now at big (field.Number kind.Double 8) (Ok result) }
-{
-    let word = get_word(&data[at.0 as usize..(at.0 + 8) as usize], big);
-    Decoded {
-        reading: Reading::Float(word),
-        size: 8,
-    }
-}
-
 // A number of a kind in so many bytes.
-pub fn number(data: &[u8], at: Offset, big: bool, kind: Kind, size: u64) -> Result<Decoded, Refusal>
-    requires within { Within «data».now at }
-    requires valid_size { T (valid_size kind size) }
-    ensures { Decodes «data».now at big (field.Number kind size) result }
+pub fn number(rest: Rest, big: bool, kind: Kind, size: u64) -> Result<Decoded, Refusal>
+    requires { T (valid_size kind size) }
+    ensures { Decodes rest.entry.data.now rest.entry.at big (field.Number kind size) result }
 {
-    if left(data.len(), at) < size {
+    if left(rest.data.len(), rest.at) < size {
         return Err(Refusal::DataEnd);
     }
+    let start = rest.at.0 as usize;
+    let bytes = &rest.data[start..start + size as usize];
     match kind {
-        Kind::SmallSigned | Kind::LuaInteger | Kind::Signed => signed(data, at, big, size),
-        Kind::SmallUnsigned | Kind::LuaUnsigned | Kind::Size | Kind::Unsigned => unsigned(
-            data, at, big, size,
-        ),
-        Kind::Single => Ok(single(data, at, big)),
-        Kind::Double => Ok(double(data, at, big)),
+        Kind::SmallSigned | Kind::LuaInteger | Kind::Signed => {
+            let z = get_signed(bytes, big).ok_or(Refusal::IntegerTooWide)?;
+            Ok(Decoded {
+                reading: Reading::Integer(z),
+                size,
+            })
+        }
+        Kind::SmallUnsigned | Kind::LuaUnsigned | Kind::Size | Kind::Unsigned => {
+            let word = get_unsigned(bytes, big).ok_or(Refusal::IntegerTooWide)?;
+            Ok(Decoded {
+                reading: Reading::Integer(to_signed(word)),
+                size,
+            })
+        }
+        // A constant number of bytes: its loop becomes one load.
+        Kind::Single => {
+            let word = get_word(&rest.data[start..start + 4], big);
+            Ok(Decoded {
+                reading: Reading::Float(from_single(word as u32)),
+                size,
+            })
+        }
+        Kind::Double => {
+            let word = get_word(&rest.data[start..start + 8], big);
+            Ok(Decoded {
+                reading: Reading::Float(word),
+                size,
+            })
+        }
     }
 }
 
 // c: a text of n bytes.
-pub fn text(data: &[u8], at: Offset, n: u64) -> Result<Decoded, Refusal>
-    requires { Within «data».now at }
-    ensures { (o : Bool) → Decodes «data».now at o (field.Chars n) result }
+pub fn text(rest: Rest, n: u64) -> Result<Decoded, Refusal>
+    ensures { (o : Bool) → Decodes rest.entry.data.now rest.entry.at o (field.Chars n) result }
 {
-    if left(data.len(), at) < n {
+    if left(rest.data.len(), rest.at) < n {
         return Err(Refusal::DataEnd);
     }
     if MAX_TEXT < n {
         return Err(Refusal::TextAbove65535);
     }
     Ok(Decoded {
-        reading: Reading::Text(at, n),
+        reading: Reading::Text(rest.at, n),
         size: n,
     })
 }
@@ -128,31 +100,34 @@ fn first_zero(bytes: &[u8]) -> Option<usize>
 }
 
 // z
-pub fn zero_ended(data: &[u8], at: Offset) -> Result<Decoded, Refusal>
-    requires { Within «data».now at }
-    ensures { (o : Bool) → Decodes «data».now at o field.ZeroEnded result }
+pub fn zero_ended(rest: Rest) -> Result<Decoded, Refusal>
+    ensures { (o : Bool) → Decodes rest.entry.data.now rest.entry.at o field.ZeroEnded result }
 {
-    let n = first_zero(&data[at.0 as usize..]).ok_or(Refusal::MissingZero)? as u64;
+    let n = first_zero(&rest.data[rest.at.0 as usize..]).ok_or(Refusal::MissingZero)? as u64;
     if MAX_TEXT < n {
         return Err(Refusal::TextAbove65535);
     }
     Ok(Decoded {
-        reading: Reading::Text(at, n),
+        reading: Reading::Text(rest.at, n),
         size: n + 1,
     })
 }
 
 // s: a length of so many bytes, then its text.
-pub fn counted(data: &[u8], at: Offset, big: bool, size: u64) -> Result<Decoded, Refusal>
-    requires { Within «data».now at }
-    ensures { Decodes «data».now at big (field.Counted size) result }
+pub fn counted(rest: Rest, big: bool, size: u64) -> Result<Decoded, Refusal>
+    ensures { Decodes rest.entry.data.now rest.entry.at big (field.Counted size) result }
 {
-    if left(data.len(), at) < size {
+    if left(rest.data.len(), rest.at) < size {
         return Err(Refusal::DataEnd);
     }
-    let bytes = &data[at.0 as usize..(at.0 + size) as usize];
+    let start = rest.at.0 as usize;
+    let bytes = &rest.data[start..start + size as usize];
     let n = get_unsigned(bytes, big).ok_or(Refusal::IntegerTooWide)?;
-    let x = text(data, further(at, size), n)?;
+    let behind = Rest {
+        data: rest.data,
+        at: further(rest.at, size),
+    };
+    let x = text(behind, n)?;
     Ok(Decoded {
         reading: x.reading,
         size: size + x.size,

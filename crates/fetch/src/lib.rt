@@ -13,6 +13,7 @@ ghost use Rattle.fetch.specs.Fetching.{skipped_from, Skips, after_of, Fetches};
 pub mod place;
 
 use align::{at_offset, natural, offset_in, padding, set};
+use decode::rest::Rest;
 use decode::{Decoded, Reading, counted, number, text, zero_ended};
 use definition::{Field, Kind, Offset, Op, Refusal, State};
 use place::Place;
@@ -69,7 +70,11 @@ fn read_number(place: Place, kind: Kind, size: u64) -> Result<Fetched, Refusal>
     ensures { Fetches place.entry.data.now place.entry.state (ops.Put (fields.Number kind size)) result }
 {
     let at = read_pad(place, natural(Field::Number(kind, size)), 0)?;
-    Ok(after(at, number(place.data, at, place.state.big, kind, size)?))
+    let rest = Rest {
+        data: place.data,
+        at,
+    };
+    Ok(after(at, number(rest, place.state.big, kind, size)?))
 }
 
 // s: the alignment of its length, then its value.
@@ -78,7 +83,11 @@ fn read_counted(place: Place, size: u64) -> Result<Fetched, Refusal>
     ensures { Fetches place.entry.data.now place.entry.state (ops.Put (fields.Counted size)) result }
 {
     let at = read_pad(place, natural(Field::Counted(size)), 0)?;
-    Ok(after(at, counted(place.data, at, place.state.big, size)?))
+    let rest = Rest {
+        data: place.data,
+        at,
+    };
+    Ok(after(at, counted(rest, place.state.big, size)?))
 }
 
 // c or z: its alignment, then its value.
@@ -87,9 +96,13 @@ fn read_text(place: Place, f: Field) -> Result<Fetched, Refusal>
     ensures { Fetches place.entry.data.now place.entry.state (ops.Put f) result }
 {
     let at = read_pad(place, natural(f), 0)?;
+    let rest = Rest {
+        data: place.data,
+        at,
+    };
     match f {
-        Field::Chars(n) => Ok(after(at, text(place.data, at, n)?)),
-        _ => Ok(after(at, zero_ended(place.data, at)?)),
+        Field::Chars(n) => Ok(after(at, text(rest, n)?)),
+        _ => Ok(after(at, zero_ended(rest)?)),
     }
 }
 

@@ -9,6 +9,6 @@ use definition::State;
 pub struct Place<'a> {
     pub data: &'a [u8],
     pub state: State,
-    ghost inside: { state.length ≤ length «data».now },
+    ghost within: { state.length ≤ length «data».now },
     ghost limited: { Limited state },
 }

@@ -9,10 +9,10 @@ pub returns-in_err-n : goal.returns-in_err-n
 returns-in_err-n c = λ o.
     let p = err_from_is_err_and c.from_residual.result c.from_residual.ensures.1 in
     let n = none_of c.in_err-n.ensures.value in
-    rw (p.1, p.2, n.1) (zero_missing c.args.data.now c.args.at o (sym c.first_zero.ensures ∙ n.0))
+    rw (p.1, p.2, n.1) (zero_missing c.args.rest.data.now c.args.rest.at o (sym c.first_zero.ensures ∙ n.0))
 
 pub returns-then-n-gt-MAX_TEXT : goal.returns-then-n-gt-MAX_TEXT
-returns-then-n-gt-MAX_TEXT c = λ o. zero_long c.args.data.now c.args.at o _ (sym c.first_zero.ensures ∙ c.in_ok-n.ensures.ok_part) c.if-n-gt-MAX_TEXT.true
+returns-then-n-gt-MAX_TEXT c = λ o. zero_long c.args.rest.data.now c.args.rest.at o _ (sym c.first_zero.ensures ∙ c.in_ok-n.ensures.ok_part) c.if-n-gt-MAX_TEXT.true
 
 pub returns : goal.returns
-returns c = λ o. zero_read c.args.data.now c.args.at o _ (sym c.first_zero.ensures ∙ c.in_ok-n.ensures.ok_part) c.if-n-gt-MAX_TEXT.false
+returns c = λ o. zero_read c.args.rest.data.now c.args.rest.at o _ (sym c.first_zero.ensures ∙ c.in_ok-n.ensures.ok_part) c.if-n-gt-MAX_TEXT.false

@@ -4,10 +4,10 @@ use Rattle.fetch.proofs.Places.{blank_op, set_op, pad_op_refused, pad_op}
 use Rattle.fetch.proofs.read_op.Goals as goal
 
 pub returns-in-Blank : goal.returns-in-Blank
-returns-in-Blank c = rw c.in-Blank.is (blank_op _ _ (c.args.place.inside, c.args.place.limited))
+returns-in-Blank c = rw c.in-Blank.is (blank_op _ _ (c.args.place.within, c.args.place.limited))
 
 pub returns-in-Set : goal.returns-in-Set
-returns-in-Set c = rw c.in-Set.is (set_op _ _ (c.args.place.inside, c.args.place.limited) _ (rw c.in-Set.is at c.requires) c.set.ensures)
+returns-in-Set c = rw c.in-Set.is (set_op _ _ (c.args.place.within, c.args.place.limited) _ (rw c.in-Set.is at c.requires) c.set.ensures)
 
 pub returns-in_err-read_pad-in-Pad : goal.returns-in_err-read_pad-in-Pad
 returns-in_err-read_pad-in-Pad c =
