@@ -57,12 +57,19 @@ pub struct OptionTable {
     ghost sizes: { Sizes (table_at entries) } by { sizes_prop (table_at entries) },
 }
 
+// The entry of a byte.
+pub fn entry(entries: &[u8; 256], b: u8) -> u8
+    ensures { entry_at result ≡ table_at entries.now b }
+{
+    entries[b as usize]
+}
+
 impl OptionTable {
     // The entry of a byte.
     pub fn entry(&self, b: u8) -> u8
         ensures { entry_at result ≡ table_at self.now.entries b }
     {
-        self.entries[b as usize]
+        entry(&self.entries, b)
     }
 }
 

@@ -1,7 +1,7 @@
 -- A byte value is below 256.
 use native.Mathlib.Omega.{arith}
 use borrow.Author.Tests.{lt-ltb}
-use Rattle.options.proofs.OptionTable.entry.Goals as goal
+use Rattle.options.proofs.entry.Goals as goal
 
 pub returns : goal.returns
 returns c =
