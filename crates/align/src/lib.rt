@@ -106,6 +106,13 @@ pub fn natural(f: Field) -> u64
     }
 }
 
+// A natural alignment.
+#[derive(Clone, Copy)]
+pub struct NaturalAlignment {
+    pub bytes: u64,
+    ghost positive: { 1 ≤ bytes },
+}
+
 // The lesser of a natural alignment and the limit.
 fn limited(s: State, natural: u64) -> u64
     ensures { result ≡ min natural s.limit }
@@ -138,12 +145,11 @@ fn fill(a: u64, n: u64) -> u64
 // The zeros that bring the state to a natural alignment, unless the lesser of it and the limit is no power of two. Of what
 // doesn't align no remainder is worked out. No limit is above 16, so the bits of an alignment alone tell whether it is a power.
 #[tactic(auto, using(crate::proofs::Powers::unaligned))]
-pub fn padding(s: State, natural: u64) -> Result<u64, Refusal>
-    requires limited { Limited s }
-    requires positive { 1 ≤ natural }
-    ensures { answer_of result ≡ states.padding s natural }
+pub fn padding(s: State, natural: NaturalAlignment) -> Result<u64, Refusal>
+    requires { Limited s }
+    ensures { answer_of result ≡ states.padding s natural.bytes }
 {
-    let a = limited(s, natural);
+    let a = limited(s, natural.bytes);
     if a < 2 {
         return Ok(0);
     }

@@ -153,7 +153,8 @@ pub struct Unpacked {
     pub next: Position,
 }
 
-// The tags of a value list's fields, and the number of bytes before a field's content.
+// The tags of a value list's fields, and the number of bytes before a field's content. Tags are bytes that a C program writes, so no enum
+// holds them: one would add a case for bytes that are no tag.
 pub const TAG_OTHER: u8 = 0;
 
 pub const TAG_INTEGER: u8 = 1;

@@ -10,7 +10,7 @@ use lib.Arith.{mod-mul, digits_mod, digits_div}
 use lib.Pow.{pow-add}
 use lib.IntN.{ℤ, pos, negsuc}
 use lib.ListN.{length, get_or, take, drop, replicate, length-append, length-drop, length-replicate, length-reverse}
-use lib.Seq.{take_at, drop_at, get_or-take, get_or-drop, length-take-le}
+use lib.Seq.{take_at, drop_at, length-take-le}
 use borrow.Author.Tests.{ltb-true, ltb-false, lt-ltb, le-ltb, le-leb, eq-eqb}
 use Rattle.definition.specs.Answers.{accepted}
 use Rattle.definition.specs.Bytes.{little, total, ordered, bits, sign, extent, signed, low, laid, coded}
@@ -102,9 +102,6 @@ number_coded o n z post =
 -- n bytes of d from `at` on
 pub length_part : (n at : ℕ) (d : List ℕ) → at + n ≤ length d → length (take n (drop at d)) ≡ n
 length_part n at d h = length-take-le n (drop at d) (rw (length-drop at d) (omega arith))
-
-pub part_at : (n at k : ℕ) (d : List ℕ) → k < n → get_or (take n (drop at d)) k 0 ≡ get_or d (at + k) 0
-part_at n at k d h = get_or-take n (drop at d) k 0 h ∙ get_or-drop at d k 0
 
 -- what is read of them, where the data don't end
 pub number_is : (o : Bool) (n at : ℕ) (d : List ℕ) → at + n ≤ length d → number o n (drop at d) ≡ accepted (total (take (low n) (ordered o (take n (drop at d)))), drop (low n) (ordered o (take n (drop at d))))

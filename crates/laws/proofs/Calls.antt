@@ -26,7 +26,7 @@ use Rattle.definition.specs.declared.Op.{Op}
 use Rattle.definition.specs.declared.Continued.{Continued}
 use Rattle.laws.proofs.Answers.{never, same, same_number, bound, passed, by_steps, both_parts}
 use Rattle.laws.proofs.Lists.{values_after}
-use Rattle.laws.proofs.Ops.{Limited, valid_op, valid_setting, Valid, options_sizes, ops_valid}
+use Rattle.laws.proofs.Ops.{valid_op, valid_setting, Valid, options_sizes, ops_valid}
 use Rattle.laws.proofs.Steps.{Step, blank, sets, pads_out, puts, step_of_lem}
 use Rattle.laws.proofs.Refusals.{ByCall, low_ops, low_writing, low_pack, low_unpack, low_tray, refuses_not}
 
@@ -117,9 +117,6 @@ pack_run s f l vs h e = rw (h, e)
 pub set_sound : (x : Setting) (s : State) → T (valid_setting x) → Sound s → Sound (set x s)
 set_sound (Setting.Order o) s ok h = h
 set_sound (Setting.Limit n) s ok h = both_true (is_power n) (at_most_63 s.length) (is_true (is_power n) ok) (both_parts (is_power s.limit) (at_most_63 s.length) h).1
-
-pub sound_limited : (s : State) → Sound s → Limited s
-sound_limited s h = (both_parts (is_power s.limit) (at_most_63 s.length) h).0
 
 longer_sound : (s : State) (n : ℕ) → Sound s → at_most_63 n ≡ true → (is_power s.limit && at_most_63 n) ≡ true
 longer_sound s n h w = both_true (is_power s.limit) (at_most_63 n) (both_parts (is_power s.limit) (at_most_63 s.length) h).0 w

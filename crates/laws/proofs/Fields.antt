@@ -1,15 +1,14 @@
 -- A field's value is read back as what is kept of it, and this is written again.
-use Prim.Native.Nat.{ℕ, ◌≤◌}
+use Prim.Native.Nat.{ℕ}
 use mathlib.Core.Path.{◌≡◌}
 use mathlib.Core.Bool.{Bool, true, ◌&&◌}
 use mathlib.Core.List.{List}
-use lib.Dec.{T, leb, leb→le, lit≤}
+use lib.Dec.{T, leb}
 use mir.Facts.{and_yes}
 use Rattle.definition.specs.Answers.{accepted}
 use Rattle.definition.specs.Ops.{within16}
 use Rattle.definition.specs.Values.{Value, Held}
 use Rattle.definition.specs.Fields.{encode}
-use Rattle.definition.specs.States.{natural}
 use Rattle.laws.specs.Claims.{is_short, integer_for_j}
 use Rattle.definition.specs.declared.Kind.{Kind}
 use Rattle.definition.specs.declared.Field.{Field}
@@ -26,12 +25,6 @@ valid_field (Counted n) = within16 n
 
 pub number_size : (k : Kind) (n : ℕ) → T (valid_field (Number k n)) → T (valid_size k n)
 number_size k n ok = (and_yes (leb 1 n) (valid_size k n) ok).1
-
-pub field_natural : (f : Field) → T (valid_field f) → 1 ≤ natural f
-field_natural (Number k n) ok = leb→le 1 n (and_yes (leb 1 n) (valid_size k n) ok).0
-field_natural (Chars n) ok = lit≤ tt
-field_natural ZeroEnded ok = lit≤ tt
-field_natural (Counted n) ok = leb→le 1 n (and_yes (leb 1 n) (leb n 16) ok).0
 
 pub field_back : (o : Bool) (f : Field) (v : Value) (bs : List ℕ) → T (valid_field f) → Held v → T (is_short f) → T (integer_for_j f v) → encode o f v ≡ accepted bs → Returns o f v bs
 field_back o (Number k n) v bs ok held short j e = number_back o k n v bs (number_size k n ok) held j e

@@ -3,11 +3,11 @@ use Prim.Native.Nat.{ℕ, zero, suc, ◌+◌, ◌≤◌, ◌<◌}
 use mathlib.Core.Path.{◌≡◌, refl, sym, ap, ◌∙◌, subst}
 use mathlib.Core.Bool.{Bool, true, false}
 use mathlib.Core.List.{List, [], ◌∷◌, ◌++◌, append_assoc}
-use native.Mathlib.Nat.{add_assoc, le_of_suc-le-suc}
+use native.Mathlib.Nat.{le_of_suc-le-suc}
 use native.Mathlib.Omega.{arith}
 use lib.Dec.{leb}
-use lib.ListN.{length, take, drop, length-append, length-drop, take-append-drop, drop_of_length-le}
-use lib.Seq.{drop-drop, drop_at, length-take-le}
+use lib.ListN.{length, take, drop, length-append, length-drop, take-append-drop}
+use lib.Seq.{drop_at, length-take-le}
 use borrow.Author.Tests.{le-leb, lt-leb, leb-true}
 use Rattle.definition.specs.Answers.{Checked, refused, accepted, ◌>>=◌}
 use Rattle.definition.specs.Bytes.{IsByte}
@@ -41,36 +41,39 @@ unfolding lists_past
 lists_refused [] k h e = absurd (omega arith)
 lists_refused (b ∷ r) k h e = rw e
 
--- ---- the list at an offset of a run
-module _ (r : List ℕ) (at : ℕ) where
+-- ---- the list at the front of a run
+module _ (r : List ℕ) where
   -- the length that stands there
   abbrev pub length_at : ℕ
-  length_at = big_total (take 2 (drop at r))
+  length_at = big_total (take 2 r)
 
-  pub at_end : length r ≤ at → lists (drop at r) ≡ accepted []
+  pub at_end : length r ≤ 0 → lists r ≡ accepted []
   unfolding lists_past
-  at_end h = rw (drop_of_length-le r h)
+  at_end = go r
+    where
+      go : (q : List ℕ) → length q ≤ 0 → lists q ≡ accepted []
+      go [] h = refl
+      go (b ∷ q) h = absurd (omega arith)
 
   -- all its bytes are there
-  pub at_list : (n : ℕ) → n ≡ length_at → at + 2 + n ≤ length r → lists (drop at r) ≡ following (take n (drop (at + 2) r)) (lists (drop (at + 2 + n) r))
+  pub at_list : (n : ℕ) → n ≡ length_at → 2 + n ≤ length r → lists r ≡ following (take n (drop 2 r)) (lists (drop (2 + n) r))
   unfolding first_list
   at_list n e h =
-      let two : leb 2 (length (drop at r)) ≡ true = le-leb 2 (length (drop at r)) (omega (arith, length-drop at r)) in
-      let all : leb n (length (drop (at + 2) r)) ≡ true = le-leb n (length (drop (at + 2) r)) (omega (arith, length-drop (at + 2) r)) in
-      let long : length (take n (drop (at + 2) r)) ≡ n = length-take-le n (drop (at + 2) r) (omega (arith, length-drop (at + 2) r)) in
-      let first : first_list (drop at r) ≡ accepted (take n (drop (at + 2) r)) = rw (two, ← e, drop-drop 2 at r, all) in
-      let rest : drop (2 + n) (drop at r) ≡ drop (at + 2 + n) r = drop-drop (2 + n) at r ∙ ap (λ (k : ℕ). drop k r) (sym (add_assoc at 2 n)) in
-      lists_first (drop at r) (take n (drop (at + 2) r)) (omega (arith, length-drop at r)) first ∙ rw (long, rest)
+      let two : leb 2 (length r) ≡ true = le-leb 2 (length r) (omega arith) in
+      let all : leb n (length (drop 2 r)) ≡ true = le-leb n (length (drop 2 r)) (omega (arith, length-drop 2 r)) in
+      let long : length (take n (drop 2 r)) ≡ n = length-take-le n (drop 2 r) (omega (arith, length-drop 2 r)) in
+      let first : first_list r ≡ accepted (take n (drop 2 r)) = rw (two, ← e, all) in
+      lists_first r (take n (drop 2 r)) (omega arith) first ∙ rw long
 
   -- the run ends before
-  pub at_short : at < length r → length r < at + 2 + length_at → lists (drop at r) ≡ refused 23
+  pub at_short : 0 < length r → length r < 2 + length_at → lists r ≡ refused 23
   unfolding first_list
-  at_short h k = lists_refused (drop at r) 23 (omega (arith, length-drop at r)) (go (leb 2 (length (drop at r))) refl)
+  at_short h k = lists_refused r 23 h (go (leb 2 (length r)) refl)
     where
-      go : (t : Bool) → leb 2 (length (drop at r)) ≡ t → first_list (drop at r) ≡ refused 23
+      go : (t : Bool) → leb 2 (length r) ≡ t → first_list r ≡ refused 23
       go false e = rw e
       go true e =
-          let short : leb length_at (length (drop 2 (drop at r))) ≡ false = lt-leb length_at (length (drop 2 (drop at r))) (omega (arith, leb-true 2 (length (drop at r)) e, length-drop 2 (drop at r), length-drop at r)) in
+          let short : leb length_at (length (drop 2 r)) ≡ false = lt-leb length_at (length (drop 2 r)) (omega (arith, leb-true 2 (length r) e, length-drop 2 r)) in
           rw (e, short)
 
 -- ---- a run and its lists

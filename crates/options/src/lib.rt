@@ -13,6 +13,8 @@ use definition::Kind;
 // 112 blank, 128 < and =, 144 >, 160 x, 176 z, which have no operand, and the size 0;
 // 196 i and l, 212 I and L, 232 s, 240 c, 244 !, which may have a numeral;
 // 248 X, 252 no option.
+// The table holds numbers and no enum, and an entry is unpacked only where an item is asked what it does: with an enum, or unpacked at once,
+// the cursor's `next` is no longer inlined, and 64 f cost twice as much (docs/DECISIONS.md).
 pub const OPTIONS: [u8; 256] = [
     252, 252, 252, 252, 252, 252, 252, 252, 252, 112, 112, 252, 252, 112, 252, 252, 252, 252, 252,
     252, 252, 252, 252, 252, 252, 252, 252, 252, 252, 252, 252, 252, 112, 244, 252, 252, 252, 252,

@@ -17,5 +17,5 @@ stands r n e h =
     rw (m, all) (record {
       whole = ap (λ (q : List ℕ). take 2 r ++ (take n (drop 2 r) ++ q)) (sym (drop-drop n 2 r)) ∙ ap (λ (q : List ℕ). take 2 r ++ q) (take-append-drop n (drop 2 r)) ∙ take-append-drop 2 r;
       lengths = omega (arith, h, length-drop 2 r, length-drop (2 + n) r, length-take-le n (drop 2 r) (omega (arith, h, length-drop 2 r)));
-      first = at_list r 0 n e h;
+      first = at_list r n e h;
     })

@@ -4,6 +4,8 @@ use Rattle.std.specs.Prelude as rust
 use Rattle.std.proofs.Math.Option.{Option, none, some}
 use Rattle.std.specs.Float.{binary64}
 use Rattle.std.specs.Float.Ieee.{to_bits, is_nan, nan_bits}
+use lib.Dec.{T_prop}
+use mathlib.Core.Path.{refl}
 use Rattle.definition.specs.Answers.{Checked, refused, accepted, ◌>>=◌}
 use Rattle.definition.specs.Values as definition
 use Rattle.definition.specs.Values.{integer, float, text, other}
@@ -28,6 +30,13 @@ Proper (Float x) = T (not (is_nan x))
 Proper (NotANumber b) = T (nan_bits binary64 b)
 Proper (Text start n) = Unit {0}
 Proper Other = Unit {0}
+
+pub proper_prop : (v : Value) → IsProp (Proper v)
+proper_prop (Integer z) = λ a b. refl
+proper_prop (Float x) = T_prop (not (is_nan x))
+proper_prop (NotANumber n) = T_prop (nan_bits binary64 n)
+proper_prop (Text start n) = λ a b. refl
+proper_prop Other = λ a b. refl
 
 -- a Text lies inside the list l, and two bytes can say its length
 abbrev pub Inside : List ℕ → Value → Type 0

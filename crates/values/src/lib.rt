@@ -1,6 +1,7 @@
 // Reads the fields of a value list.
 #![tactic(auto)]
 
+pub mod proper;
 pub mod reader;
 
 ghost use Rattle.std.specs.Prelude.{◌≡◌, true, ◌+◌, ◌≤◌, ◌<◌, length, drop};

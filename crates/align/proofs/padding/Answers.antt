@@ -4,8 +4,8 @@ use Rattle.align.proofs.padding.Goals as goal
 
 pub returns-then-a-eq0 : goal.returns-then-a-eq0
 returns-then-a-eq0 c =
-    aligned c.args.s _ _ c.limited-a.ensures c.requires.limited c.requires.positive c.if-a-eq0.true c.fill.ensures
+    aligned c.args.s _ _ c.limited-a.ensures c.requires c.args.natural.positive c.if-a-eq0.true c.fill.ensures
 
 pub returns : goal.returns
 returns c =
-    no_power c.args.s _ _ c.limited-a.ensures c.requires.limited c.requires.positive c.if-a-eq0.false
+    no_power c.args.s _ _ c.limited-a.ensures c.requires c.args.natural.positive c.if-a-eq0.false

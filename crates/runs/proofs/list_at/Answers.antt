@@ -8,15 +8,15 @@ use Rattle.runs.proofs.Standing.{stands}
 use Rattle.runs.proofs.list_at.Goals as goal
 
 pub returns-then-is_empty : goal.returns-then-is_empty
-returns-then-is_empty c = at_end c.args.run.now 0 (omega (arith, true-eqb _ 0 c.if-is_empty.ensures))
+returns-then-is_empty c = at_end c.args.run.now (omega (arith, true-eqb _ 0 c.if-is_empty.ensures))
 
 pub returns-then-run-lt-LENGTH : goal.returns-then-run-lt-LENGTH
-returns-then-run-lt-LENGTH c = at_short c.args.run.now 0 (omega (arith, false-eqb _ 0 c.if-is_empty.ensures)) (omega arith)
+returns-then-run-lt-LENGTH c = at_short c.args.run.now (omega (arith, false-eqb _ 0 c.if-is_empty.ensures)) (omega arith)
 
 pub returns-then-run-n : goal.returns-then-run-n
 returns-then-run-n c =
     let announced = loaded c.args.run.now 0 2 _ _ (lit≤ tt) (omega arith) refl c.get_word-n.ensures in
-    at_short c.args.run.now 0 (omega arith) (omega (arith, announced.is))
+    at_short c.args.run.now (omega arith) (omega (arith, announced.is))
 
 pub returns : goal.returns
 returns c =
