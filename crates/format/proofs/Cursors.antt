@@ -15,8 +15,9 @@ use Rattle.definition.specs.Ops.{within16, op_by, op_with, op_of}
 use Rattle.laws.proofs.Ops.{entry_ok, Sizes}
 use Rattle.definition.specs.declared.Op.{Op}
 use Rattle.options.specs.Packed.{plain_at, entry_at}
-use Rattle.operand.specs.Operands.{operand_by, operand_with, op_for, taking, operand_at}
-use Rattle.format.specs.Steps.{op_at, next_at}
+use Rattle.operand.specs.Operands.{operand_by, operand_with, taking, operand_at}
+use Rattle.format.specs.Ops.{op_for, op_at}
+use Rattle.format.specs.Steps.{next_at}
 use Rattle.numeral.proofs.Digits.{drop_at}
 use Rattle.operand.proofs.Entries.{cut, at_fixed, at_plain, at_align, at_none, digits_rule, own_size, plain_all}
 

@@ -7,14 +7,9 @@ use Rattle.definition.specs.Options.{Table}
 use Rattle.definition.specs.Items.{item, taken}
 use Rattle.definition.specs.Ops.{op_of}
 use Rattle.definition.specs.declared.Op.{Op}
-use Rattle.options.specs.Packed.{entry_at}
-use Rattle.operand.specs.Operands.{op_for}
+use Rattle.format.specs.Ops.{op_at}
 use Rattle.format.specs.declared.cursor.Cursor.{Cursor}
-use Rattle.format.specs.declared.cursor.Item.{Item}
-
--- what an item does, by the packed entry of its byte and its operand
-abbrev pub op_at : ℕ → ℕ → Op
-op_at e n = op_for (entry_at e).class n
+use Rattle.format.specs.declared.item.Item.{Item}
 
 -- the first item of s, which stands at a place: what it does, and the place after it; none at the end
 unfoldable pub next_at : Table → ℕ → List ℕ → Checked (Option (Op × ℕ))

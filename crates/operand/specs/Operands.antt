@@ -1,4 +1,4 @@
--- The operand of an option: its size, limit, length or alignment. What an item does is its option's class with its operand.
+-- The operand of an option: its size, limit, length or alignment.
 use Rattle.std.specs.Prelude.{ℕ, ◌+◌, ◌≤◌, ◌<◌, cond, List, ltb, leb, length, drop, Result, Ok, Err}
 use Rattle.definition.specs.Answers.{Checked, refused, accepted, ◌>>=◌}
 use Rattle.definition.specs.Items.{digits, taken_by, next_byte, numeral_of, Numeral, Missing, TooLarge, Value}
@@ -6,9 +6,6 @@ use Rattle.definition.specs.Ops.{size_or, limit_or, needed, natural_of}
 use Rattle.definition.specs.Options.{Table, Class, NumeralRule, Nothing, Digits, DigitsBehindX, NextByte, Entry}
 use Rattle.definition.specs.Refusals.{refusal_number}
 use Rattle.definition.specs.declared.Refusal.{Refusal}
-use Rattle.definition.specs.declared.Op.{Op}
-use Rattle.definition.specs.declared.Field.TheVariants as Field
-use Rattle.definition.specs.declared.Setting.TheVariants as Setting
 use Rattle.numeral.specs.Numerals.{short_of}
 use Rattle.numeral.specs.declared.Short.{Short}
 use Rattle.options.specs.Packed.{entry_at}
@@ -40,19 +37,6 @@ operand_with t Nothing e s = operand_by e.class e.size Missing
 operand_with t Digits e s = operand_by e.class e.size (numeral_of s)
 operand_with t DigitsBehindX e s = operand_by e.class e.size Missing
 operand_with t NextByte e s = natural_of t s
-
--- what an option of a class does, with its operand; a byte that is no option has none, and may stand with X
-abbrev pub op_for : Class → ℕ → Op
-op_for Class.NoOption n = Op.Pad n 0
-op_for Class.Blank n = Op.Blank
-op_for (Class.Order o) n = Op.Set (Setting.Order o)
-op_for Class.Limit n = Op.Set (Setting.Limit n)
-op_for (Class.Number k) n = Op.Put (Field.Number k n)
-op_for Class.Chars n = Op.Put (Field.Chars n)
-op_for Class.ZeroEnded n = Op.Put Field.ZeroEnded
-op_for Class.Counted n = Op.Put (Field.Counted n)
-op_for Class.Fill n = Op.Pad 1 1
-op_for Class.Align n = Op.Pad n 0
 
 -- a number, and how many bytes are taken
 abbrev pub taking : ℕ → Checked ℕ → Checked (ℕ × ℕ)

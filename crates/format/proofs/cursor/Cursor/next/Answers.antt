@@ -3,6 +3,7 @@ use Rattle.std.proofs.Common.{◌+◌, sym, length-drop, arith}
 use Rattle.std.proofs.lemmas.Result.{err_from_is_err_and}
 use Rattle.format.proofs.Cursors.{next_end, next_step}
 use Rattle.operand.proofs.Operands.{operand_count}
+use Rattle.format.proofs.Walking.{valid}
 use Rattle.format.proofs.cursor.Cursor.next.Goals as goal
 
 pub returns-then-format-at : goal.returns-then-format-at
@@ -19,3 +20,8 @@ overflow_add-result c =
 
 pub returns : goal.returns
 returns c = next_step _ c.args.table.now.sizes _ _ c.if-format-at.false _ c.entry-entry.ensures _ c.in_ok-x.ensures
+
+pub invariant_of-item : goal.invariant_of-item
+invariant_of-item c =
+    let sizes = c.args.table.now.sizes in
+    record { valid = valid _ _ _ (sym (next_step _ sizes _ _ c.if-format-at.false _ c.entry-entry.ensures _ c.in_ok-x.ensures)) sizes }

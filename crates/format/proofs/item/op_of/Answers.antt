@@ -2,7 +2,7 @@
 use mathlib.Core.Path.{◌∙◌}
 use Rattle.format.proofs.Cursors.{plain_op, align_op}
 use Rattle.operand.proofs.Entries.{at_fixed, at_plain, at_signed, at_unsigned, at_counted, at_chars, at_limit}
-use Rattle.format.proofs.cursor.Item.op.Goals as goal
+use Rattle.format.proofs.item.op_of.Goals as goal
 
 pub returns-then-e-lt-FIXED_END : goal.returns-then-e-lt-FIXED_END
 returns-then-e-lt-FIXED_END c =
@@ -10,7 +10,7 @@ returns-then-e-lt-FIXED_END c =
 
 pub returns-then-e-lt-PLAIN_END : goal.returns-then-e-lt-PLAIN_END
 returns-then-e-lt-PLAIN_END c =
-    rw (at_plain _ c.if-e-lt-FIXED_END.false c.if-e-lt-PLAIN_END.true) (c.plain.ensures ∙ plain_op c.args.self.entry c.args.self.operand)
+    rw (at_plain _ c.if-e-lt-FIXED_END.false c.if-e-lt-PLAIN_END.true) (c.plain.ensures ∙ plain_op c.args.e c.args.n)
 
 pub returns-then-e-lt-SIGNED_END : goal.returns-then-e-lt-SIGNED_END
 returns-then-e-lt-SIGNED_END c =
