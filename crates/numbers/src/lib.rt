@@ -6,11 +6,12 @@ ghost use Rattle.std.proofs.Math.Option.{some};
 ghost use Rattle.std.specs.Float.{binary64};
 ghost use Rattle.std.specs.Float.Ieee.{of_int, rem, fin};
 ghost use Rattle.definition.specs.Values as definition;
-ghost use Rattle.values.specs.Meaning.{meaning, Proper};
+ghost use Rattle.values.specs.Meaning.{meaning};
 ghost use Rattle.numbers.specs.Meaning.{found, wrapped_float};
 
 use single::nearest;
 use values::Value;
+use values::proper::ProperValue;
 use words::extent;
 
 const TWO_64: f64 = 18446744073709551616.0;
@@ -147,11 +148,10 @@ pub fn wrapped(x: f64) -> u64
 }
 
 // The integer of a value: an integer itself, a float that equals one, otherwise none.
-pub fn as_integer(v: Value) -> Option<i64>
-    requires { Proper v }
-    ensures { (l : List ℕ) → found result ≡ definition.as_integer (meaning l v) }
+pub fn as_integer(v: ProperValue) -> Option<i64>
+    ensures { (l : List ℕ) → found result ≡ definition.as_integer (meaning l v.value) }
 {
-    match v {
+    match v.value {
         Value::Integer(n) => Some(n),
         Value::Float(x) => integer_of(x.to_bits()),
         Value::NotANumber(_) | Value::Text(_, _) | Value::Other => None,
@@ -159,11 +159,10 @@ pub fn as_integer(v: Value) -> Option<i64>
 }
 
 // The number of a value: a float itself, an integer rounded to one, otherwise none.
-pub fn as_number(v: Value) -> Option<u64>
-    requires { Proper v }
-    ensures { (l : List ℕ) → found result ≡ definition.as_number (meaning l v) }
+pub fn as_number(v: ProperValue) -> Option<u64>
+    ensures { (l : List ℕ) → found result ≡ definition.as_number (meaning l v.value) }
 {
-    match v {
+    match v.value {
         Value::Integer(n) => Some(bits_of(n)),
         Value::Float(x) => Some(x.to_bits()),
         Value::NotANumber(b) => Some(b),
@@ -172,11 +171,10 @@ pub fn as_number(v: Value) -> Option<u64>
 }
 
 // What T writes of a float that has no integer.
-pub fn as_wrapped(v: Value) -> Option<u64>
-    requires { Proper v }
-    ensures { (l : List ℕ) → found result ≡ wrapped_float (meaning l v) }
+pub fn as_wrapped(v: ProperValue) -> Option<u64>
+    ensures { (l : List ℕ) → found result ≡ wrapped_float (meaning l v.value) }
 {
-    match v {
+    match v.value {
         Value::Float(x) => Some(wrapped(x)),
         Value::NotANumber(_) => Some(0),
         Value::Integer(_) | Value::Text(_, _) | Value::Other => None,

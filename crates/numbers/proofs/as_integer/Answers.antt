@@ -14,4 +14,7 @@ without l v p (inr (inl (s, n, e))) = rw e
 without l v p (inr (inr e)) = rw e
 
 pub returns-in-NotANumber : goal.returns-in-NotANumber
-returns-in-NotANumber c = λ l. without l c.args.v c.requires c.in-NotANumber.is
+returns-in-NotANumber c =
+    let v = c.args.v.value in
+    let p : Proper v = c.args.v.proper in
+    λ l. without l v p c.in-NotANumber.is

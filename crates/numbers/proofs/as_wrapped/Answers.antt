@@ -13,4 +13,4 @@ returns-in-Float c =
     rw (c.in-Float.is, of_bits-to_bits binary64 c.in-Float.x f) (ap some c.wrapped.ensures)
 
 pub returns-in-NotANumber : goal.returns-in-NotANumber
-returns-in-NotANumber c = λ l. rw (c.in-NotANumber.is, nan_of_bits _ (rw c.in-NotANumber.is at c.requires))
+returns-in-NotANumber c = λ l. rw (c.in-NotANumber.is, nan_of_bits _ (rw c.in-NotANumber.is at c.args.v.proper))

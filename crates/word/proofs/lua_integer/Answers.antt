@@ -7,4 +7,4 @@ pub returns-in-Some : goal.returns-in-Some
 returns-in-Some c = λ l n h. says_integer n _ _ (omega arith) c.to_word.ensures (of_integer n _ _ (sym (c.in-Some.ensures l))).lua
 
 pub returns-in-None : goal.returns-in-None
-returns-in-None c = λ l n h. says_bits n _ c.number.result h (c.number.ensures l) (of_none n _ (sym (c.in-None.ensures l))).lua
+returns-in-None c = λ l n h. says_bits n _ c.bits.result h (c.bits.ensures l) (of_none n _ (sym (c.in-None.ensures l))).lua

@@ -10,5 +10,5 @@ returns-in-Some c = λ l. says_ranged (in_unsigned 8) 8 c.in-Some.z c.in_range.r
 
 pub returns-in-None : goal.returns-in-None
 returns-in-None c =
-    let below : IfOk c.number.result (λ b. b < 2 ^ 64) = search rules in
-    λ l. says_bits 8 _ c.number.result (lit≤ tt) (c.number.ensures l) (lua_unsigned_bits _ c.number.result (sym (c.in-None.ensures l)) below (c.number.ensures l))
+    let below : IfOk c.bits.result (λ b. b < 2 ^ 64) = search rules in
+    λ l. says_bits 8 _ c.bits.result (lit≤ tt) (c.bits.ensures l) (lua_unsigned_bits _ c.bits.result (sym (c.in-None.ensures l)) below (c.bits.ensures l))

@@ -9,12 +9,12 @@ use Rattle.word.proofs.ranged.Goals as goal
 pub returns-in_err-z : goal.returns-in_err-z
 returns-in_err-z c =
     let s = c.args.signed in
-    let n = c.args.size in
+    let n = c.args.size.bytes in
     let p = err_from_is_err_and c.from_residual.result c.from_residual.ensures.1 in
     λ l. rw (p.1, p.2) (says_refused n _ (ranged_is n _ s ∙ ap (λ (x : Checked ℤ). x >>= λ z. ranged_or (in_range s n z) z) (sym (c.in_err-z.ensures l))))
 
 pub returns : goal.returns
 returns c =
     let s = c.args.signed in
-    let n = c.args.size in
+    let n = c.args.size.bytes in
     λ l. says_ranged (in_range s n) n c.in_ok-z.z c.in_range.result (omega arith) (ranged_is n _ s ∙ ap (λ (x : Checked ℤ). x >>= λ z. ranged_or (in_range s n z) z) (sym (c.in_ok-z.ensures l))) c.in_range.ensures
