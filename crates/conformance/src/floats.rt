@@ -1,24 +1,23 @@
 // Floats: as_integer, as_number and T.
-ghost use Rattle.values.specs.Meaning.{Proper};
-
 use crate::vector::Vector;
 use numbers::{as_integer, as_number, as_wrapped};
 use single::to_single;
+use values::proper::ProperValue;
 use values::{Value, field_at, is_list};
 use words::to_word;
 
 // The float of 64 bits, written into a value list and read from it.
-fn listed(bits: u64) -> Value
-    ensures { Proper result }
-{
+fn listed(bits: u64) -> ProperValue {
     let mut list = [0u8; 11];
     fields::put_float(&mut list, 0, bits);
     if is_list(&list)
         && let Some((value, _)) = field_at(&list, 0)
     {
-        return value;
+        return ProperValue { value };
     }
-    Value::Other
+    ProperValue {
+        value: Value::Other,
+    }
 }
 
 // The integer of a float, or none.
@@ -28,8 +27,10 @@ pub fn has_integer(v: Vector) -> bool {
 
 // The f64 of an integer, and its f32.
 pub fn has_number(v: Vector) -> bool {
-    as_number(Value::Integer(v.a.cast_signed())).is_some_and(|b| b == v.b
-        && u64::from(to_single(b)) == v.c)
+    let x = ProperValue {
+        value: Value::Integer(v.a.cast_signed()),
+    };
+    as_number(x).is_some_and(|b| b == v.b && u64::from(to_single(b)) == v.c)
 }
 
 // What T writes of a float: its integer, else its remainder.
