@@ -1,5 +1,6 @@
-// The items of a format: the cursor that reads one item after the other, and what an item does.
+// The items of a format: the cursor that reads one item after the other, what an item does, and a walk over all of them.
 #![tactic(auto)]
 
 pub mod cursor;
 pub mod item;
+pub mod walk;
