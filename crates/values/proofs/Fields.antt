@@ -1,17 +1,16 @@
 -- From the field at an offset to the values of the list from there.
-use Prim.Native.Nat.{ℕ, zero, suc, ◌+◌, ◌-◌, ◌≤◌, ◌<◌}
+use Prim.Native.Nat.{ℕ, ◌+◌}
 use mathlib.Core.Path.{◌≡◌, refl, sym, ap, ◌∙◌}
 use mathlib.Core.List.{List, [], ◌∷◌}
 use mathlib.Core.Option.{none, some}
-use native.Mathlib.Nat.{add_assoc}
 use native.Mathlib.Omega.{arith}
-use lib.ListN.{length, take, drop, drop_of_length-le}
+use lib.ListN.{drop}
 use lib.Seq.{drop-drop}
 use Rattle.definition.specs.Answers.{Checked, refused, accepted, ◌>>=◌}
 use Rattle.definition.specs.Values as definition
-use Rattle.definition.specs.Lists.{big_total, field_of, values_past, values, fields_after}
-use Rattle.laws.proofs.Lists.{past_drop, none_after, after_first}
-use Rattle.values.specs.Meaning.{is_accepted, Standing, placed, first_field, field_at, size_at}
+use Rattle.definition.specs.Lists.{field_of, values_past, values}
+use Rattle.laws.proofs.Lists.{past_drop}
+use Rattle.values.specs.Meaning.{is_accepted, Standing, placed, first_field, field_at}
 
 -- the values of a list that begins with w
 abbrev pub beginning : definition.Value → Checked (List definition.Value) → Checked (List definition.Value)
@@ -66,17 +65,3 @@ module _ (l : List ℕ) (at : ℕ) (vs : List definition.Value) (known : values 
 pub accepted_beginning : (w : definition.Value) (c : Checked (List definition.Value)) → is_accepted (beginning w c) ≡ is_accepted c
 accepted_beginning w (refused k) = refl
 accepted_beginning w (accepted vs) = refl
-
--- ---- the list after some fields
-module _ (l : List ℕ) (at : ℕ) where
-  -- one field fewer, in the list after the first one
-  pub after_next : (k : ℕ) → 0 < k → fields_after k (drop at l) ≡ fields_after (k - 1) (drop (at + 3 + size_at l at) l)
-  after_next zero h = absurd (omega arith)
-  after_next (suc k) h =
-      let n : 3 + big_total (take 2 (drop 1 (drop at l))) ≡ 3 + size_at l at = ap (λ (s : List ℕ). 3 + big_total (take 2 s)) (drop-drop 1 at l) in
-      let less : suc k - 1 ≡ k = omega arith in
-      after_first k (drop at l) ∙ ap (λ (m : ℕ). fields_after k (drop m (drop at l))) n ∙ rw (drop-drop (3 + size_at l at) at l, add_assoc at 3 (size_at l at), less)
-
-  -- no byte is left where the first field is not whole
-  pub after_short : (k : ℕ) → 0 < k → length l ≤ at + 3 + size_at l at → fields_after k (drop at l) ≡ []
-  after_short k p h = after_next k p ∙ rw (drop_of_length-le l h) (none_after (k - 1))

@@ -1,4 +1,5 @@
 pub mod Loading
-pub mod Contents
 pub mod Fields
 pub mod Lists
+pub mod FirstFields
+pub mod Reading

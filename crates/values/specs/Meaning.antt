@@ -1,6 +1,7 @@
 -- What the code's values and fields mean, in the definition's terms.
 use Rattle.std.specs.Prelude.{ℕ, ◌+◌, ◌≤◌, ◌<◌, ◌≡◌, Bool, true, false, not, cond, ◌||◌, List, [], ◌∷◌, T, eqb, length, take, drop, get_or, Some, None}
 use Rattle.std.specs.Prelude as rust
+use Rattle.std.specs.Borrow.{Bor}
 use Rattle.std.proofs.Math.Option.{Option, none, some}
 use Rattle.std.specs.Float.{binary64}
 use Rattle.std.specs.Float.Ieee.{to_bits, is_nan, nan_bits}
@@ -87,19 +88,21 @@ abbrev pub SoundField : List ℕ → ℕ → rust.Option (Value × ℕ) → Type
 SoundField l at (Some (v, next)) = Sound l at v next
 SoundField l at None = Unit {0}
 
--- the length of content that the field at an offset of l says
-abbrev pub size_at : List ℕ → ℕ → ℕ
-size_at l at = big_total (take 2 (drop (at + 1) l))
+-- the length of content that the first field of l says
+abbrev pub size_of : List ℕ → ℕ
+size_of l = big_total (take 2 (drop 1 l))
 
--- l has every byte of the field at an offset, whose content has n
-pub record Complete (l : List ℕ) (at n : ℕ) : Type 0 where
-  pub within : at + 3 + n ≤ length l
-  pub size : n ≡ size_at l at
+-- the first field of l, its content and all, has the tag t and the content c, and r is the list behind it
+pub record First (l : List ℕ) (t : ℕ) (c r : List ℕ) : Type 0 where
+  pub within : 3 + size_of l ≤ length l
+  pub tag : t ≡ get_or l 0 0
+  pub content : c ≡ take (size_of l) (drop 3 l)
+  pub behind : r ≡ drop (3 + size_of l) l
 
--- what the code says of that length: n, or that l ends before
-abbrev pub LengthRead : List ℕ → ℕ → rust.Option ℕ → Type 0
-LengthRead l at (Some n) = Complete l at n
-LengthRead l at None = length l < at + 3 + size_at l at
+-- what the code says of it: these, or that l ends before
+abbrev pub FirstRead : List ℕ → rust.Option (ℕ × Bor (List ℕ) × Bor (List ℕ)) → Type 0
+FirstRead l (Some (t, c, r)) = First l t c.now r.now
+FirstRead l None = length l < 3 + size_of l
 
 -- the tag of a number
 abbrev pub numeric : ℕ → Bool
@@ -108,16 +111,6 @@ numeric t = eqb t 1 || eqb t 2
 -- a content of n bytes suits the tag t
 abbrev pub suits : ℕ → ℕ → Bool
 suits t n = cond (eqb t 0) (eqb n 0) (cond (numeric t) (eqb n 8) (eqb t 3))
-
--- the field at an offset of l is well formed, with a content of n bytes
-pub record Whole (l : List ℕ) (at n : ℕ) : Type 0 where
-  pub complete : Complete l at n
-  pub tag : suits (get_or l at 0) n ≡ true
-
--- what the code says of the field at an offset: well formed, or refused
-abbrev pub ContentRead : List ℕ → ℕ → rust.Option ℕ → Type 0
-ContentRead l at (Some n) = Whole l at n
-ContentRead l at None = some (refused 21) ≡ field_at l at
 
 -- r is the field at an offset of l
 pub record FieldRead (l : List ℕ) (at : ℕ) (r : rust.Option (Value × ℕ)) : Type 0 where

@@ -4,14 +4,12 @@
 pub mod proper;
 pub mod reader;
 
-ghost use Rattle.std.specs.Prelude.{◌≡◌, true, ◌+◌, ◌≤◌, ◌<◌, length, drop};
+ghost use Rattle.std.specs.Prelude.{◌≡◌, true, drop};
 ghost use Rattle.definition.specs.Lists.{values, offset_after};
-ghost use Rattle.values.specs.Loading.{Loaded};
-ghost use Rattle.values.specs.Meaning.{numeric, FloatRead, suits, LengthRead, ContentRead, FieldRead, is_accepted};
+ghost use Rattle.values.specs.Meaning.{numeric, FloatRead, suits, FirstRead, FieldRead, is_accepted};
 
 use crate::reader::Reader;
-use definition::{HEAD, TAG_FLOAT, TAG_INTEGER, TAG_OTHER, TAG_TEXT};
-use load::get_word;
+use definition::{TAG_FLOAT, TAG_INTEGER, TAG_OTHER, TAG_TEXT};
 
 // A value of a list.
 #[derive(Clone, Copy)]
@@ -32,14 +30,6 @@ const SIGN: u64 = 0x8000_0000_0000_0000;
 const INFINITY: u64 = 0x7ff0_0000_0000_0000;
 
 // ---- reading
-
-// The number that n bytes of a list write, the highest first.
-fn number_at(list: &[u8], at: usize, n: usize) -> u64
-    requires { (n ≤ 8) × (at + n ≤ length list.now) }
-    ensures { Loaded list.now at n result }
-{
-    get_word(&list[at..at + n], true)
-}
 
 // Whether a tag is a number's. Asked first, in one comparison, it makes numbers cheap.
 // Tags stay bytes, which are compared and never kept: an enum of them would add an arm of `try_from` that no field comes to.
@@ -69,20 +59,17 @@ pub fn field_at(list: &[u8], at: usize) -> Option<(Value, usize)>
     Reader { list, at }.field()
 }
 
-// The length that the field at an offset says, of a list that is not known to be well formed. None where the list ends before
-// so many bytes.
-fn length_at(list: &[u8], at: usize) -> Option<usize>
-    requires { at ≤ length list.now }
-    ensures { LengthRead list.now at result }
+// The first field of a list, which is not known to be well formed: its tag, its content, and the list behind it. None where the
+// list ends before.
+fn first(list: &[u8]) -> Option<(u8, &[u8], &[u8])>
+    ensures { FirstRead list.now result }
 {
-    if list.len() - at < HEAD {
+    let [tag, high, low, rest @ ..] = list else {
         return None;
-    }
-    let n = number_at(list, at + 1, 2) as usize;
-    if list.len() - at - HEAD < n {
-        return None;
-    }
-    Some(n)
+    };
+    let n = usize::from(u16::from_be_bytes([*high, *low]));
+    let (content, behind) = rest.split_at_checked(n)?;
+    Some((*tag, content, behind))
 }
 
 // Whether a content of n bytes suits a tag.
@@ -98,43 +85,30 @@ fn length_suits(tag: u8, n: usize) -> bool
     tag == TAG_TEXT
 }
 
-// The length of a well-formed field's content. None where the field at the offset is malformed.
-fn content_at(list: &[u8], at: usize) -> Option<usize>
-    requires { at < length list.now }
-    ensures { ContentRead list.now at result }
-{
-    let n = length_at(list, at)?;
-    if length_suits(list[at], n) {
-        Some(n)
-    } else {
-        None
-    }
-}
-
 // Whether the list is fields and nothing else.
 pub fn is_list(list: &[u8]) -> bool
     ensures { result ≡ is_accepted (values list.now) }
 {
-    let mut at = 0;
-    while at < list.len() {
-        match content_at(list, at) {
-            Some(n) => at += HEAD + n,
-            None => return false,
+    let mut rest = list;
+    while let Some((tag, content, behind)) = first(rest) {
+        if !length_suits(tag, content.len()) {
+            return false;
         }
+        rest = behind;
     }
-    true
+    rest.is_empty()
 }
 
 // Where the list after its first k fields starts: at its end where there are fewer.
 pub fn fields_after(list: &[u8], k: u64) -> usize
     ensures { result ≡ offset_after k list.now }
 {
-    let mut at = 0;
+    let mut rest = list;
     for _ in 0..k {
-        let Some(n) = length_at(list, at) else {
+        let Some((_, _, behind)) = first(rest) else {
             return list.len();
         };
-        at += HEAD + n;
+        rest = behind;
     }
-    at
+    list.len() - rest.len()
 }

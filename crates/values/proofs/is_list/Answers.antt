@@ -1,27 +1,21 @@
--- `is_list` meets its contract: each field decides for the list from it on, and the end is accepted.
-use Rattle.std.proofs.Common.{◌+◌, drop, sym, ap, ◌∙◌, drop_of_length-le}
-use native.Mathlib.Nat.{add_assoc}
-use Rattle.definition.specs.Lists.{values_past, values}
+-- `is_list` meets its contract: each field decides for the list behind it.
+use Rattle.std.proofs.Common.{◌≡◌, ◌&&◌, sym, ap, ◌∙◌}
+use Rattle.definition.specs.Lists.{values}
 use Rattle.values.specs.Meaning.{is_accepted}
-use Rattle.values.proofs.Contents.{by_suits}
-use Rattle.values.proofs.Fields.{values_by, accepted_beginning}
+use Rattle.values.proofs.FirstFields.{accepted_first, at_end}
 use Rattle.values.proofs.is_list.Goals as goal
+use Rattle.values.proofs.is_list.Goals.{After-length_suits}
 
-pub loop-at-preserved : goal.loop-at-preserved
-loop-at-preserved c =
-    let l = c.args.list.now in
-    let i = c.loop-at in
-    let h = c.in-Some.ensures in
-    let f = rw h.tag at (by_suits l i.at c.in-Some.n h.complete) in
-    rw (← add_assoc i.at 3 c.in-Some.n) (sym (accepted_beginning f.0 (values (drop (i.at + 3 + c.in-Some.n) l))) ∙ ap is_accepted (sym (values_by l i.at f.1)) ∙ i.invariant)
+decided : (c : After-length_suits) → (c.length_suits.result && is_accepted (values c.in-Some.behind.now)) ≡ is_accepted (values c.args.list.now)
+decided c =
+    let i = c.in-Some in
+    ap (λ b. b && is_accepted (values i.behind.now)) c.length_suits.ensures ∙ sym (accepted_first c.loop-tag.rest.now i.tag i.content.now i.behind.now i.ensures) ∙ c.loop-tag.invariant
 
-pub returns-in-None : goal.returns-in-None
-returns-in-None c =
-    let i = c.loop-at in
-    ap is_accepted (sym (values_by c.args.list.now i.at c.in-None.ensures)) ∙ i.invariant
+pub loop-tag-preserved : goal.loop-tag-preserved
+loop-tag-preserved c = rw c.if-not-length_suits.false at (decided (goal.at.loop-tag-preserved c).After-length_suits)
+
+pub returns-then-not-length_suits : goal.returns-then-not-length_suits
+returns-then-not-length_suits c = rw c.if-not-length_suits.true at (decided (goal.at.returns-then-not-length_suits c).After-length_suits)
 
 pub returns : goal.returns
-unfolding values_past
-returns c =
-    let l = c.args.list.now in
-    ap (λ s. is_accepted (values s)) (sym (drop_of_length-le l c.loop-at-test.false)) ∙ c.loop-at.invariant
+returns c = c.is_empty.ensures ∙ at_end c.loop-tag.rest.now c.in_default.ensures ∙ c.loop-tag.invariant

@@ -1,13 +1,12 @@
--- `is_list` meets its contract. The loop's invariant: the whole list is accepted just where the list from `at` is.
-use Prim.Native.Nat.{◌-◌}
+-- The invariant: whether the rest is accepted decides for the whole list. The measure is what is left of it.
 use mathlib.Core.Path.{◌≡◌}
-use lib.ListN.{length, drop}
+use lib.ListN.{length}
 use Rattle.definition.specs.Lists.{values}
 use Rattle.values.specs.Meaning.{is_accepted}
 use Rattle.values.proofs.is_list.Given as goal
 
-abbrev pub invariant-loop-at : goal.invariant-loop-at
-invariant-loop-at l = is_accepted (values (drop l.at l.list)) ≡ is_accepted (values l.list)
+abbrev pub invariant-loop-tag : goal.invariant-loop-tag
+invariant-loop-tag l = is_accepted (values l.rest) ≡ is_accepted (values l.list)
 
-abbrev pub decreases-loop-at : goal.decreases-loop-at
-decreases-loop-at l = length l.list - l.at
+abbrev pub decreases-loop-tag : goal.decreases-loop-tag
+decreases-loop-tag l = length l.rest
