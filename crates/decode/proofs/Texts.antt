@@ -48,9 +48,9 @@ module _ (d : List ℕ) (at : Offset) (n : ℕ) (o : Bool) where
   unfolding decode
   chars_long h l = record { says = rw (first_is n at.0 d h, long_is n at.0 d h l); inside = tt }
 
-  pub chars_read : at.0 + n ≤ length d → n ≤ 65535 → Decodes d at o (Field.Chars n) (Ok (record { reading = Text at n; size = n }))
+  pub chars_read : at.0 + n ≤ length d → (l : n ≤ 65535) → Decodes d at o (Field.Chars n) (Ok (record { reading = Text (record { start = at; size = n; short = l }); size = n }))
   unfolding decode
-  chars_read h l = record { says = rw (first_is n at.0 d h, short_is n at.0 d h l); inside = ((h, l), h) }
+  chars_read h l = record { says = rw (first_is n at.0 d h, short_is n at.0 d h l); inside = (h, h) }
 
 -- ---- z
 
@@ -107,11 +107,11 @@ module _ (d : List ℕ) (at : Offset) (o : Bool) where
     unfolding decode
     zero_long l = record { says = rw (before_zero, long_is n at.0 d (omega (arith, below)) l); inside = tt }
 
-    pub zero_read : n ≤ 65535 → Decodes d at o Field.ZeroEnded (Ok (record { reading = Text at n; size = n + 1 }))
+    pub zero_read : (l : n ≤ 65535) → Decodes d at o Field.ZeroEnded (Ok (record { reading = Text (record { start = at; size = n; short = l }); size = n + 1 }))
     unfolding decode
     zero_read l =
         let h : at.0 + n ≤ length d = omega (arith, below) in
-        record { says = rw (before_zero, short_is n at.0 d h l, part_length n at.0 d h); inside = ((h, l), omega (arith, below)) }
+        record { says = rw (before_zero, short_is n at.0 d h l, part_length n at.0 d h); inside = (h, omega (arith, below)) }
 
 -- ---- s: a length of n bytes, and the text of k bytes behind it
 

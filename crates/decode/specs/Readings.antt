@@ -24,13 +24,13 @@ Within d o = o.0 ≤ length d
 abbrev pub value_of : List ℕ → Reading → Value
 value_of d (Integer z) = integer z
 value_of d (Float b) = float b
-value_of d (Text start n) = text (take n (from d start))
+value_of d (Text t) = text (take t.size (from d t.start))
 
--- a text lies inside the data, and a value list can hold it
+-- a text lies inside the data
 abbrev pub Inside : List ℕ → Reading → Type 0
 Inside d (Integer z) = Unit {0}
 Inside d (Float b) = Unit {0}
-Inside d (Text start n) = (start.0 + n ≤ length d) × (n ≤ 65535)
+Inside d (Text t) = t.start.0 + t.size ≤ length d
 
 -- ---- fields
 

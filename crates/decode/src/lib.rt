@@ -1,26 +1,28 @@
 // The value of a field's bytes: 17, then 18 or 19, then 20.
 #![tactic(auto)]
 
-ghost use Rattle.std.specs.Prelude.{◌≡◌, Bool, ◌==◌, T, position};
+ghost use Rattle.std.specs.Prelude.{◌≡◌, Bool, ◌==◌, position};
 ghost use Rattle.definition.specs.declared.Field.TheVariants as field;
-ghost use Rattle.laws.proofs.Numbers.{valid_size};
 ghost use Rattle.decode.specs.Readings.{Decodes};
 
 pub mod rest;
+pub mod span;
 
-use definition::{Kind, Offset, Refusal};
+use definition::{Kind, Refusal};
+use items::Number;
 use load::{get_signed, get_unsigned, get_word};
 use position::{further, left};
 use rest::Rest;
 use single::from_single;
+use span::Span;
 use words::to_signed;
 
-// A value that is read: an integer, a float by its 64 bits, or a text by its offset in the data and its length.
+// A value that is read: an integer, a float by its 64 bits, or a text by where it lies in the data.
 #[derive(Clone, Copy)]
 pub enum Reading {
     Integer(i64),
     Float(u64),
-    Text(Offset, u64),
+    Text(Span),
 }
 
 // A value, and the number of bytes that it was read of.
@@ -33,17 +35,17 @@ pub struct Decoded {
 // The length of the longest text that a value list holds.
 const MAX_TEXT: u64 = 65535;
 
-// A number of a kind in so many bytes.
-pub fn number(rest: Rest, big: bool, kind: Kind, size: u64) -> Result<Decoded, Refusal>
-    requires { T (valid_size kind size) }
-    ensures { Decodes rest.entry.data.now rest.entry.at big (field.Number kind size) result }
+// A number. The arms are by kind, and not by what each reads: an enum of what is read would be made of a kind for this match alone.
+pub fn number(rest: Rest, big: bool, number: Number) -> Result<Decoded, Refusal>
+    ensures { Decodes rest.entry.data.now rest.entry.at big (field.Number number.kind number.size) result }
 {
+    let size = number.size;
     if left(rest.data.len(), rest.at) < size {
         return Err(Refusal::DataEnd);
     }
     let start = rest.at.0 as usize;
     let bytes = &rest.data[start..start + size as usize];
-    match kind {
+    match number.kind {
         Kind::SmallSigned | Kind::LuaInteger | Kind::Signed => {
             let z = get_signed(bytes, big).ok_or(Refusal::IntegerTooWide)?;
             Ok(Decoded {
@@ -87,7 +89,10 @@ pub fn text(rest: Rest, n: u64) -> Result<Decoded, Refusal>
         return Err(Refusal::TextAbove65535);
     }
     Ok(Decoded {
-        reading: Reading::Text(rest.at, n),
+        reading: Reading::Text(Span {
+            start: rest.at,
+            size: n,
+        }),
         size: n,
     })
 }
@@ -108,7 +113,10 @@ pub fn zero_ended(rest: Rest) -> Result<Decoded, Refusal>
         return Err(Refusal::TextAbove65535);
     }
     Ok(Decoded {
-        reading: Reading::Text(rest.at, n),
+        reading: Reading::Text(Span {
+            start: rest.at,
+            size: n,
+        }),
         size: n + 1,
     })
 }

@@ -39,10 +39,10 @@ returns-in_ok-word-in-SmallUnsigned c =
 
 pub returns-in-Single : goal.returns-in-Single
 returns-in-Single c =
-    let four = eqb→eq c.args.size 4 (rw c.in-Single.is at c.requires) in
+    let four = eqb→eq c.args.number.size 4 (rw c.in-Single.is at c.args.number.valid) in
     rw c.in-Single.is (single_read _ _ _ _ (omega (arith, four)) (omega (arith, four)) c.get_word-word.ensures c.from_single.ensures)
 
 pub returns-in-Double : goal.returns-in-Double
 returns-in-Double c =
-    let eight = eqb→eq c.args.size 8 (rw c.in-Double.is at c.requires) in
+    let eight = eqb→eq c.args.number.size 8 (rw c.in-Double.is at c.args.number.valid) in
     rw c.in-Double.is (double_read _ _ _ _ (omega (arith, eight)) (omega (arith, eight)) c.get_word-word-in-Double.ensures)

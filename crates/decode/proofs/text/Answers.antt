@@ -10,4 +10,4 @@ pub returns-then-n-gt-MAX_TEXT : goal.returns-then-n-gt-MAX_TEXT
 returns-then-n-gt-MAX_TEXT c = λ o. chars_long _ _ _ o (omega arith) c.if-n-gt-MAX_TEXT.true
 
 pub returns : goal.returns
-returns c = λ o. chars_read _ _ _ o (omega arith) c.if-n-gt-MAX_TEXT.false
+returns c = λ o. chars_read _ _ _ o (omega arith) _

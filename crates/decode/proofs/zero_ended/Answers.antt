@@ -15,4 +15,4 @@ pub returns-then-n-gt-MAX_TEXT : goal.returns-then-n-gt-MAX_TEXT
 returns-then-n-gt-MAX_TEXT c = λ o. zero_long c.args.rest.data.now c.args.rest.at o _ (sym c.first_zero.ensures ∙ c.in_ok-n.ensures.ok_part) c.if-n-gt-MAX_TEXT.true
 
 pub returns : goal.returns
-returns c = λ o. zero_read c.args.rest.data.now c.args.rest.at o _ (sym c.first_zero.ensures ∙ c.in_ok-n.ensures.ok_part) c.if-n-gt-MAX_TEXT.false
+returns c = λ o. zero_read c.args.rest.data.now c.args.rest.at o _ (sym c.first_zero.ensures ∙ c.in_ok-n.ensures.ok_part) _
