@@ -14,15 +14,19 @@ use Rattle.std.proofs.lemmas.List.Quantifiers.{position-Some}
 use Rattle.definition.specs.Answers.{Checked, refused, accepted, ◌>>=◌}
 use Rattle.definition.specs.Values.{Value, text}
 use Rattle.definition.specs.Fields.{first, short, up_to_zero, number, unsigned, decode}
+use Rattle.definition.specs.Reading.{offset}
 use Rattle.definition.specs.declared.Offset.{Offset}
 use Rattle.definition.specs.declared.Refusal.{Refusal}
+use Rattle.definition.specs.Refusals.{refusal_number}
 use Rattle.definition.specs.declared.Field.TheVariants as Field
 use Rattle.load.specs.Numbers.{unsigned_at}
 use Rattle.load.proofs.Parts.{unsigned_part}
 use Rattle.decode.specs.Readings.{from, Decodes}
 use Rattle.decode.specs.declared.Reading.TheVariants.{Text}
 use Rattle.decode.specs.declared.Decoded.{Decoded}
-use Rattle.decode.proofs.Numbers.{bind_bind, first_short}
+use Rattle.decode.specs.Rests.{split, past}
+use Rattle.decode.proofs.Rests.{Taken, split_refused, past_refused}
+use Rattle.decode.proofs.Numbers.{bind_bind}
 
 -- the n bytes at an offset
 module _ (n at : ℕ) (d : List ℕ) (h : at + n ≤ length d) where
@@ -40,9 +44,9 @@ module _ (n at : ℕ) (d : List ℕ) (h : at + n ≤ length d) where
 
 -- ---- c
 module _ (d : List ℕ) (at : Offset) (n : ℕ) (o : Bool) where
-  pub chars_short : length d - at.0 < n → Decodes d at o (Field.Chars n) (Err Refusal.DataEnd)
+  pub chars_ended : {r : Refusal} → refused (refusal_number r) ≡ past d at n → Decodes d at o (Field.Chars n) (Err r)
   unfolding decode
-  chars_short h = record { says = rw (first_short n at.0 d h); inside = tt }
+  chars_ended e = record { says = rw (past_refused d at n e); inside = tt }
 
   pub chars_long : at.0 + n ≤ length d → 65535 < n → Decodes d at o (Field.Chars n) (Err Refusal.TextAbove65535)
   unfolding decode
@@ -131,33 +135,35 @@ counting_more n k (accepted t) = go (short t)
     go (refused j) = refl
     go (accepted u) = refl
 
-module _ (d : List ℕ) (at : Offset) (o : Bool) (n : ℕ) where
-  pub counted_short : length d - at.0 < n → Decodes d at o (Field.Counted n) (Err Refusal.DataEnd)
+module _ (o : Bool) {d : List ℕ} {at : Offset} {n : ℕ} where
+  pub counted_ended : {r : Refusal} → refused (refusal_number r) ≡ split d at n → Decodes d at o (Field.Counted n) (Err r)
   unfolding decode number
-  counted_short h = record { says = rw (first_short n at.0 d h); inside = tt }
+  counted_ended e = record { says = rw (split_refused d at n e); inside = tt }
 
-  -- the part of the data that is read: its m bytes are the n
-  module _ {m : ℕ} (p : m ≡ n) (h : at.0 + n ≤ length d) where
-    abbrev part : List ℕ
-    part = take m (from d at)
-
-    decode_counted : decode o (Field.Counted n) (from d at) ≡ (unsigned_at o (length part) part >>= λ k. counting (n + k) (first k (drop n (from d at))))
+  -- b are the bytes of the length, and r is the rest behind them
+  module _ {b : List ℕ} {r : List ℕ × Offset} (g : Taken d at n b r) where
+    decode_counted : decode o (Field.Counted n) (from d at) ≡ (unsigned_at o (length b) b >>= λ k. counting (n + k) (first k (drop n (from d at))))
     unfolding decode
     decode_counted =
-        sym (ap (λ (c : Checked ℕ). c >>= λ k. counting (n + k) (first k (drop n (from d at)))) (unsigned_part o n at.0 m d p h)
-        ∙ bind_bind (number o n (from d at)) (λ r. unsigned r.0 r.1) (λ k. counting (n + k) (first k (drop n (from d at)))))
+        rw g.bytes
+        (sym (ap (λ (c : Checked ℕ). c >>= λ k. counting (n + k) (first k (drop n (from d at)))) (unsigned_part o n at.0 n d refl g.fits)
+        ∙ bind_bind (number o n (from d at)) (λ r. unsigned r.0 r.1) (λ k. counting (n + k) (first k (drop n (from d at))))))
 
-    pub counted_wide : refused 18 ≡ unsigned_at o (length part) part → Decodes d at o (Field.Counted n) (Err Refusal.IntegerTooWide)
+    pub counted_wide : refused 18 ≡ unsigned_at o (length b) b → Decodes d at o (Field.Counted n) (Err Refusal.IntegerTooWide)
     counted_wide e = record { says = rw (decode_counted, ← e); inside = tt }
 
-    -- the text stands at the offset t
-    module _ {k : ℕ} (e : accepted k ≡ unsigned_at o (length part) part) {t : Offset} (q : t.0 ≡ at.0 + n) where
-      behind : more n (decode o (Field.Chars k) (from d t)) ≡ decode o (Field.Counted n) (from d at)
+    -- the text has k bytes
+    module _ {k : ℕ} (e : accepted k ≡ unsigned_at o (length b) b) where
+      behind : more n (decode o (Field.Chars k) (from d (offset (at.0 + n)))) ≡ decode o (Field.Counted n) (from d at)
       unfolding decode
-      behind = rw (decode_counted, ← e, q, drop-drop n at.0 d) (sym (counting_more n k (first k (drop (at.0 + n) d))))
+      behind = rw (decode_counted, ← e, drop-drop n at.0 d) (sym (counting_more n k (first k (drop (at.0 + n) d))))
 
-      pub counted_refused : {r : Refusal} → Decodes d t o (Field.Chars k) (Err r) → Decodes d at o (Field.Counted n) (Err r)
-      counted_refused s = record { says = ap (more n) s.says ∙ behind; inside = tt }
+      pub counted_refused : {x : Refusal} → Decodes r.0 r.1 o (Field.Chars k) (Err x) → Decodes d at o (Field.Counted n) (Err x)
+      counted_refused s =
+          let t = rw (g.kept, g.behind) at s in
+          record { says = ap (more n) t.says ∙ behind; inside = tt }
 
-      pub counted_read : {x : Decoded} → Decodes d t o (Field.Chars k) (Ok x) → Decodes d at o (Field.Counted n) (Ok (record { reading = x.reading; size = n + x.size }))
-      counted_read s = record { says = ap (more n) s.says ∙ behind; inside = (s.inside.0, omega (arith, s.inside.1)) }
+      pub counted_read : {x : Decoded} → Decodes r.0 r.1 o (Field.Chars k) (Ok x) → Decodes d at o (Field.Counted n) (Ok (record { reading = x.reading; size = n + x.size }))
+      counted_read s =
+          let t = rw (g.kept, g.behind) at s in
+          record { says = ap (more n) t.says ∙ behind; inside = (t.inside.0, omega (arith, t.inside.1)) }

@@ -11,7 +11,6 @@ pub mod span;
 use definition::{Kind, Refusal};
 use items::Number;
 use load::{get_signed, get_unsigned, get_word};
-use position::{further, left};
 use rest::Rest;
 use single::from_single;
 use span::Span;
@@ -40,11 +39,7 @@ pub fn number(rest: Rest, big: bool, number: Number) -> Result<Decoded, Refusal>
     ensures { Decodes rest.entry.data.now rest.entry.at big (field.Number number.kind number.size) result }
 {
     let size = number.size;
-    if left(rest.data.len(), rest.at) < size {
-        return Err(Refusal::DataEnd);
-    }
-    let start = rest.at.0 as usize;
-    let bytes = &rest.data[start..start + size as usize];
+    let (bytes, _) = rest.split(size)?;
     match number.kind {
         Kind::SmallSigned | Kind::LuaInteger | Kind::Signed => {
             let z = get_signed(bytes, big).ok_or(Refusal::IntegerTooWide)?;
@@ -62,14 +57,14 @@ pub fn number(rest: Rest, big: bool, number: Number) -> Result<Decoded, Refusal>
         }
         // A constant number of bytes: its loop becomes one load.
         Kind::Single => {
-            let word = get_word(&rest.data[start..start + 4], big);
+            let word = get_word(&bytes[0..4], big);
             Ok(Decoded {
                 reading: Reading::Float(from_single(word as u32)),
                 size,
             })
         }
         Kind::Double => {
-            let word = get_word(&rest.data[start..start + 8], big);
+            let word = get_word(&bytes[0..8], big);
             Ok(Decoded {
                 reading: Reading::Float(word),
                 size,
@@ -82,9 +77,7 @@ pub fn number(rest: Rest, big: bool, number: Number) -> Result<Decoded, Refusal>
 pub fn text(rest: Rest, n: u64) -> Result<Decoded, Refusal>
     ensures { (o : Bool) → Decodes rest.entry.data.now rest.entry.at o (field.Chars n) result }
 {
-    if left(rest.data.len(), rest.at) < n {
-        return Err(Refusal::DataEnd);
-    }
+    rest.past(n)?;
     if MAX_TEXT < n {
         return Err(Refusal::TextAbove65535);
     }
@@ -125,16 +118,8 @@ pub fn zero_ended(rest: Rest) -> Result<Decoded, Refusal>
 pub fn counted(rest: Rest, big: bool, size: u64) -> Result<Decoded, Refusal>
     ensures { Decodes rest.entry.data.now rest.entry.at big (field.Counted size) result }
 {
-    if left(rest.data.len(), rest.at) < size {
-        return Err(Refusal::DataEnd);
-    }
-    let start = rest.at.0 as usize;
-    let bytes = &rest.data[start..start + size as usize];
+    let (bytes, behind) = rest.split(size)?;
     let n = get_unsigned(bytes, big).ok_or(Refusal::IntegerTooWide)?;
-    let behind = Rest {
-        data: rest.data,
-        at: further(rest.at, size),
-    };
     let x = text(behind, n)?;
     Ok(Decoded {
         reading: x.reading,

@@ -1,27 +1,33 @@
 -- `counted` meets its contract: 17 where the length ends, 18 where it does not fit, then the text behind it.
 use native.Mathlib.Omega.{arith}
 use Rattle.std.proofs.lemmas.Result.{err_from_is_err_and}
+use Rattle.decode.proofs.Rests.{split_taken}
 use Rattle.decode.proofs.Numbers.{none_of}
-use Rattle.decode.proofs.Texts.{counted_short, counted_wide, counted_refused, counted_read}
+use Rattle.decode.proofs.Texts.{counted_ended, counted_wide, counted_refused, counted_read}
 use Rattle.decode.proofs.counted.Goals as goal
 
-pub returns-then-left-size : goal.returns-then-left-size
-returns-then-left-size c = counted_short _ _ _ _ (omega arith)
+pub returns-in_err-bytes : goal.returns-in_err-bytes
+returns-in_err-bytes c =
+    let p = err_from_is_err_and c.from_residual.result c.from_residual.ensures.1 in rw (p.1, p.2) (counted_ended _ c.in_err-bytes.ensures)
 
 pub returns-in_err-n : goal.returns-in_err-n
 returns-in_err-n c =
-    let p = err_from_is_err_and c.from_residual.result c.from_residual.ensures.1 in
+    let p = err_from_is_err_and c.from_residual-in_err-n.result c.from_residual-in_err-n.ensures.1 in
     let n = none_of c.in_err-n.ensures.value in
-    rw (p.1, p.2, n.1) (counted_wide _ _ _ _ (omega arith) (omega arith) (rw n.0 at c.get_unsigned.ensures))
+    rw (p.1, p.2, n.1) (counted_wide _ (split_taken c.args.rest.within c.in_ok-bytes.ensures) (rw n.0 at c.get_unsigned.ensures))
 
 pub returns-in_err-x : goal.returns-in_err-x
 returns-in_err-x c =
     let p = err_from_is_err_and c.from_residual-in_err-x.result c.from_residual-in_err-x.ensures.1 in
     rw (p.1, p.2)
-    (counted_refused _ _ _ _ (omega arith) (omega arith) (rw c.in_ok-n.ensures.ok_part at c.get_unsigned.ensures) c.further.ensures (c.in_err-x.ensures c.args.big))
+    (counted_refused _ (split_taken c.args.rest.within c.in_ok-bytes.ensures) (rw c.in_ok-n.ensures.ok_part at c.get_unsigned.ensures) (c.in_err-x.ensures c.args.big))
 
 pub overflow_add-result : goal.overflow_add-result
-overflow_add-result c = let p = c.in_ok-x.ensures c.args.big in omega (arith, p.inside.1, c.further.ensures)
+overflow_add-result c =
+    let g = split_taken c.args.rest.within c.in_ok-bytes.ensures in
+    let p = rw (g.kept, g.behind) at (c.in_ok-x.ensures c.args.big) in
+    omega (arith, p.inside.1)
 
 pub returns : goal.returns
-returns c = counted_read _ _ _ _ (omega arith) (omega arith) (rw c.in_ok-n.ensures.ok_part at c.get_unsigned.ensures) c.further.ensures (c.in_ok-x.ensures c.args.big)
+returns c =
+    counted_read _ (split_taken c.args.rest.within c.in_ok-bytes.ensures) (rw c.in_ok-n.ensures.ok_part at c.get_unsigned.ensures) (c.in_ok-x.ensures c.args.big)
