@@ -1,5 +1,5 @@
 -- What a field's bytes give, in the definition's terms.
-use Rattle.std.specs.Prelude.{ℕ, ◌+◌, ◌≤◌, ◌≡◌, Bool, true, false, List, length, take, drop, Result, IfOk}
+use Rattle.std.specs.Prelude.{ℕ, ◌+◌, ◌≤◌, ◌≡◌, Bool, List, length, take, drop, Result, IfOk}
 use Rattle.definition.specs.Refusals.{answer_by}
 use Rattle.definition.specs.Values.{Value, integer, float, text}
 use Rattle.definition.specs.Fields.{decode}
@@ -33,13 +33,6 @@ Inside d (Float b) = Unit {0}
 Inside d (Text t) = t.start.0 + t.size ≤ length d
 
 -- ---- fields
-
--- c or z
-abbrev pub is_unaligned : Field → Bool
-is_unaligned (Number k n) = false
-is_unaligned (Chars n) = true
-is_unaligned ZeroEnded = true
-is_unaligned (Counted n) = false
 
 -- the definition's value, and the number of bytes
 abbrev pub decoded_in : List ℕ → Decoded → Value × ℕ

@@ -5,12 +5,13 @@ use mathlib.Core.List.{List, [], ◌∷◌}
 use lib.Dec.{T}
 use lib.ListN.{take, drop}
 use lib.Seq.{drop-drop}
-use Rattle.std.specs.Prelude.{Ok, Err}
+use Rattle.std.specs.Prelude.{◌+◌, ◌≤◌, length, Result, Ok, Err}
 use Rattle.definition.specs.Answers.{Checked, refused, accepted, ◌>>=◌}
 use Rattle.definition.specs.Values.{Value}
-use Rattle.definition.specs.States.{set, further, natural}
+use Rattle.definition.specs.Refusals.{answer_by}
+use Rattle.definition.specs.States.{set, further, natural, padding}
 use Rattle.definition.specs.Writing.{Place, place}
-use Rattle.definition.specs.Reading.{values_of, at_offset, skipped, read_field, read_op}
+use Rattle.definition.specs.Reading.{values_of, offset_in, at_offset, skipped, read_field, read_op}
 use Rattle.laws.proofs.Ops.{Limited, set_limited, valid_setting}
 use Rattle.laws.proofs.Traces.{map_out, read_value}
 use Rattle.definition.specs.declared.State.{State}
@@ -20,7 +21,10 @@ use Rattle.definition.specs.declared.Setting.{Setting}
 use Rattle.definition.specs.declared.Op.{Op}
 use Rattle.definition.specs.declared.Refusal.{Refusal}
 use Rattle.definition.specs.Fields.{decode}
-use Rattle.decode.specs.Readings.{from, value_of, is_unaligned, decoded_in, Decodes}
+use Rattle.decode.specs.Readings.{from, value_of, decoded_in, Decodes}
+use Rattle.decode.specs.Rests.{rest_of, past}
+use Rattle.decode.proofs.Rests.{past_refused, past_taken, past_first}
+use Rattle.decode.specs.declared.rest.Rest.{Rest}
 use Rattle.fetch.specs.Fetching.{Stands, place_in, Skips, after_of, fetched_in, Fetches}
 use Rattle.decode.specs.declared.Decoded.{Decoded}
 use Rattle.fetch.specs.declared.Fetched.{Fetched}
@@ -33,34 +37,49 @@ skipped_is d s n = rw (drop-drop n s.length d)
 abbrev read_on_lem : List ℕ → State → Checked (Value × ℕ) → Checked (Place ℕ × List Value)
 read_on_lem d s c = c >>= λ v. accepted (skipped (place_in d s) v.1, v.0 ∷ [])
 
+-- ---- p zeros, and k bytes: m in all
+module _ {d : List ℕ} {s : State} {n k p m : ℕ} (e : accepted p ≡ padding s n) (h : s.length ≤ length d) (i : m ≡ p + k) where
+  pub skips : (r : Result Rest Refusal) → answer_by rest_of r ≡ past d (offset_in s) m → Skips d s n k r
+  skips (Err x) q = record { says = rw (← e, ← i, past_refused d (offset_in s) m q); kept = tt }
+  skips (Ok x) q =
+      let g = past_taken h q in
+      record { says = rw (← e, ← i, past_first d (offset_in s) m h q, g.behind) (ap accepted (sym (skipped_is d s m))); kept = g.kept }
+
 -- ---- a field: t is the offset after its padding, and x is what its bytes give there
-field_is : {d : List ℕ} {s : State} (f : Field) {t : Offset} → Skips d s (natural f) 0 (Ok t)
-    → read_on_lem d (at_offset s t) (decode s.big f (from d t)) ≡ read_value (place_in d s) (Op.Put f)
+field_is : {d : List ℕ} {s : State} (f : Field) {t : Rest} → Skips d s (natural f) 0 (Ok t)
+    → read_on_lem d (at_offset s t.at) (decode s.big f (from d t.at)) ≡ read_value (place_in d s) (Op.Put f)
 unfolding read_op read_field
-field_is {d} {s} f {t} p = rw (← p.says) (go (decode s.big f (drop t.0 d)))
+field_is {d} {s} f {t} p = rw (← p.says) (go (decode s.big f (drop t.at.0 d)))
   where
     place_is : Place ℕ
-    place_is = place_in d (at_offset s t)
+    place_is = place_in d (at_offset s t.at)
 
-    go : (c : Checked (Value × ℕ)) → read_on_lem d (at_offset s t) c
-        ≡ map_out values_of (c >>= λ v. accepted (skipped place_is v.1, record { field = f; start = t; bytes = take v.1 (drop t.0 d); value = v.0 } ∷ []))
+    go : (c : Checked (Value × ℕ)) → read_on_lem d (at_offset s t.at) c
+        ≡ map_out values_of (c >>= λ v. accepted (skipped place_is v.1, record { field = f; start = t.at; bytes = take v.1 (drop t.at.0 d); value = v.0 } ∷ []))
     go (refused k) = refl
     go (accepted v) = refl
 
-module _ {d : List ℕ} {s : State} {f : Field} where
-  pub field_pad_refused : {e : Refusal} → Skips d s (natural f) 0 (Err e) → Fetches d s (Op.Put f) (Err e)
+-- f aligns by n
+module _ {d : List ℕ} {s : State} {f : Field} {n : ℕ} (q : n ≡ natural f) where
+  pub field_pad_refused : {e : Refusal} → Skips d s n 0 (Err e) → Fetches d s (Op.Put f) (Err e)
   unfolding read_op read_field
-  field_pad_refused p = record { says = rw (← p.says); stands = tt }
+  field_pad_refused p = let r = rw q at p in record { says = rw (← r.says); stands = tt }
 
-  module _ {t : Offset} (p : Skips d s (natural f) 0 (Ok t)) where
-    pub field_refused : {e : Refusal} → Decodes d t s.big f (Err e) → Fetches d s (Op.Put f) (Err e)
-    field_refused g = record { says = ap (read_on_lem d (at_offset s t)) g.says ∙ field_is f p; stands = tt }
+  module _ {t : Rest} (p : Skips d s n 0 (Ok t)) {g : Field} (i : f ≡ g) where
+    -- what is decoded there
+    decoded_at : {r : Result Decoded Refusal} → Decodes t.data.now t.at s.big g r → Decodes d t.at s.big f r
+    decoded_at x = rw (p.kept, ← i) at x
 
-    pub field_after : {x : Decoded} {y : Fetched} → Decodes d t s.big f (Ok x) → y ≡ after_of t x → Fetches d s (Op.Put f) (Ok y)
-    field_after {x} g e = rw e (record { says = on ∙ ap (read_on_lem d (at_offset s t)) g.says ∙ field_is f p; stands = (g.inside.1, g.inside.0) })
+    pub field_refused : {e : Refusal} → Decodes t.data.now t.at s.big g (Err e) → Fetches d s (Op.Put f) (Err e)
+    field_refused x = record { says = ap (read_on_lem d (at_offset s t.at)) (decoded_at x).says ∙ field_is f (rw q at p); stands = tt }
+
+    pub field_after : {x : Decoded} {y : Fetched} → Decodes t.data.now t.at s.big g (Ok x) → y ≡ after_of t.at x → Fetches d s (Op.Put f) (Ok y)
+    field_after {x} h e =
+        let c = decoded_at h in
+        rw e (record { says = on ∙ ap (read_on_lem d (at_offset s t.at)) c.says ∙ field_is f (rw q at p); stands = (c.inside.1, c.inside.0) })
       where
-        on : accepted (fetched_in d s (after_of t x)) ≡ read_on_lem d (at_offset s t) (accepted (decoded_in d x))
-        on = ap (λ (q : Place ℕ). accepted (q, value_of d x.reading ∷ [])) (sym (skipped_is d (at_offset s t) x.size))
+        on : accepted (fetched_in d s (after_of t.at x)) ≡ read_on_lem d (at_offset s t.at) (accepted (decoded_in d x))
+        on = ap (λ (q : Place ℕ). accepted (q, value_of d x.reading ∷ [])) (sym (skipped_is d (at_offset s t.at) x.size))
 
 -- ---- an item
 module _ (d : List ℕ) (s : State) (stands : Stands d s) where
@@ -85,15 +104,6 @@ module _ {d : List ℕ} {s : State} {n k : ℕ} where
   unfolding read_op
   pad_op_refused p = record { says = rw (← p.says); stands = tt }
 
-  pub pad_op : {o : Offset} {t : State} → Limited s → Skips d s n k (Ok o) → t ≡ at_offset s o → Fetches d s (Op.Pad n k) (Ok (Fetched.Set t))
+  pub pad_op : {x : Rest} {t : State} → Limited s → Skips d s n k (Ok x) → t ≡ at_offset s x.at → Fetches d s (Op.Pad n k) (Ok (Fetched.Set t))
   unfolding read_op
-  pad_op h p e = rw e (record { says = rw (← p.says); stands = (p.inside, h) })
-
--- ---- by the variant
-
--- what is not c
-pub zero_ended_left : (f : Field) → T (is_unaligned f) → ((n : ℕ) → f ≡ Field.Chars n → ⊥) → f ≡ Field.ZeroEnded
-zero_ended_left (Field.Number k n) h o = absurd h
-zero_ended_left (Field.Chars n) h o = absurd (o n refl)
-zero_ended_left Field.ZeroEnded h o = refl
-zero_ended_left (Field.Counted n) h o = absurd h
+  pad_op {x} h p e = rw e (record { says = rw (← p.says); stands = (rw p.kept at x.within, h) })

@@ -11,6 +11,7 @@ use Rattle.definition.specs.declared.State.{State}
 use Rattle.definition.specs.declared.Offset.{Offset}
 use Rattle.definition.specs.declared.Op.{Op}
 use Rattle.definition.specs.declared.Refusal.{Refusal}
+use Rattle.decode.specs.declared.rest.Rest.{Rest}
 use Rattle.decode.specs.declared.Decoded.{Decoded}
 use Rattle.fetch.specs.declared.Fetched.{Fetched}
 use Rattle.decode.specs.Readings.{from, Within, value_of, Inside}
@@ -23,14 +24,10 @@ Stands d s = Within d (offset_in s) × Limited s
 abbrev pub place_in : List ℕ → State → Place ℕ
 place_in d s = place s (from d (offset_in s))
 
--- past k bytes, where so many are left from an offset on
-abbrev pub skipped_from : Offset → ℕ → ℕ → Checked Offset
-skipped_from at rest k = cond (leb k rest) (accepted (offset (at.0 + k))) (refused 17)
-
--- r is the place in d past an alignment by n, and k bytes
-pub record Skips (d : List ℕ) (s : State) (n k : ℕ) (r : Result Offset Refusal) : Type 0 where
-  pub says : answer_by (λ (o : Offset). place_in d (at_offset s o)) r ≡ read_pad (place_in d s) n k
-  pub inside : IfOk r (λ o. Within d o)
+-- r is the rest of d past an alignment by n, and k bytes
+pub record Skips (d : List ℕ) (s : State) (n k : ℕ) (r : Result Rest Refusal) : Type 0 where
+  pub says : answer_by (λ (x : Rest). place_in d (at_offset s x.at)) r ≡ read_pad (place_in d s) n k
+  pub kept : IfOk r (λ x. x.data.now ≡ d)
 
 -- what is decoded at an offset, and the offset after it
 abbrev pub after_of : Offset → Decoded → Fetched

@@ -7,6 +7,7 @@ ghost use Rattle.definition.specs.Calls.{call, string_unpack};
 
 use align::{at_offset, start as start_state};
 use definition::{Refusal, Unpacked};
+use fetch::place::Place;
 use options::table;
 use position::{offset_of, position_of};
 use read_pass::pass;
@@ -21,14 +22,17 @@ pub fn string_unpack(
     ensures { call (answer_of result) list.new ≡ string_unpack format.now «data».now start list.old }
 {
     let offset = offset_of(start, data.len())?;
-    let s = at_offset(start_state(), offset);
+    let place = Place {
+        data,
+        state: at_offset(start_state(), offset),
+    };
     let options = table();
-    let total = pass(&options, format, data, s, list, false)?;
+    let total = pass(&options, format, place, list, false)?;
     if (list.len() as u64) < total.length {
         return Err(Refusal::ResultTooLong);
     }
     // It refuses nothing that the first pass accepted.
-    pass(&options, format, data, s, list, true)?;
+    pass(&options, format, place, list, true)?;
     Ok(Unpacked {
         length: total.length,
         next: position_of(total.next),

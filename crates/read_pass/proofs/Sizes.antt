@@ -12,7 +12,7 @@ use Rattle.laws.proofs.Lists.{length_big, length_list}
 use Rattle.decode.specs.Readings.{from, value_of, Inside}
 use Rattle.decode.specs.declared.Reading.{Reading}
 use Rattle.decode.specs.declared.Reading.TheVariants.{Integer, Float, Text}
-use Rattle.read_pass.specs.Runs.{size_of, Short}
+use Rattle.read_pass.specs.Runs.{size_of}
 
 pub list_parts : (x y : List Value) → list_of (x ++ y) ≡ list_of x ++ list_of y
 unfolding list_of
@@ -32,11 +32,6 @@ one_value v n e = omega (arith, length_list v [], no_values, e)
 pub size_is : (d : List ℕ) (r : Reading) → Inside d r → length (list_of (value_of d r ∷ [])) ≡ size_of r
 size_is d (Integer z) h = one_value (integer z) 8 (length_big 8 (bits z))
 size_is d (Float b) h = one_value (float b) 8 (length_big 8 b)
-size_is d (Text start n) h =
-    let s : List ℕ = from d start in
-    one_value (text (take n s)) n (length-take-le n s (omega (arith, length-drop start.0 d, h.0)))
-
-pub short : (d : List ℕ) (r : Reading) → Inside d r → Short r
-short d (Integer z) h = tt
-short d (Float b) h = tt
-short d (Text start n) h = h.1
+size_is d (Text t) h =
+    let s : List ℕ = from d t.start in
+    one_value (text (take t.size s)) t.size (length-take-le t.size s (omega (arith, length-drop t.start.0 d, h)))

@@ -29,13 +29,7 @@ read_at t f d s = reading_values (place_in d s) (ops t f)
 abbrev pub size_of : Reading → ℕ
 size_of (Integer z) = 11
 size_of (Float b) = 11
-size_of (Text start n) = 3 + n
-
--- a value list can hold it
-abbrev pub Short : Reading → Type 0
-Short (Integer z) = Unit {0}
-Short (Float b) = Unit {0}
-Short (Text start n) = n ≤ 65535
+size_of (Text t) = 3 + t.size
 
 -- ---- the first pass
 

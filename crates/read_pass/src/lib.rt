@@ -5,15 +5,14 @@ ghost use Rattle.std.specs.Prelude.{◌≡◌, true, cond, [], ◌∷◌, ◌+�
 ghost use Rattle.std.proofs.Math.Seq.{paste};
 ghost use Rattle.definition.specs.Lists.{list_of};
 ghost use Rattle.decode.specs.Readings.{value_of, Inside};
-ghost use Rattle.fetch.specs.Fetching.{Stands};
 ghost use Rattle.options.specs.Packed.{table_at};
-ghost use Rattle.read_pass.specs.Runs.{size_of, Short, Checks, Fits, list_after};
+ghost use Rattle.read_pass.specs.Runs.{size_of, Checks, Fits, list_after};
 
 use align::{at_offset, offset_in, parts, sum};
 use decode::Reading;
-use definition::{Offset, Refusal, State};
+use definition::{Offset, Refusal};
+use fetch::Fetched;
 use fetch::place::Place;
-use fetch::{Fetched, read_op};
 use fields::{put_float, put_integer, put_text};
 use format::cursor::Cursor;
 use options::OptionTable;
@@ -28,13 +27,11 @@ pub struct Total {
 
 // The length of the field of a value.
 fn size_of(r: Reading) -> u64
-    requires { Short r }
     ensures { (result ≡ size_of r) × (result ≤ 65538) }
 {
     match r {
-        Reading::Integer(_) => 11,
-        Reading::Float(_) => 11,
-        Reading::Text(_, n) => 3 + n,
+        Reading::Integer(_) | Reading::Float(_) => 11,
+        Reading::Text(text) => 3 + text.size,
     }
 }
 
@@ -47,35 +44,35 @@ fn put_reading(list: &mut [u8], at: usize, data: &[u8], r: Reading)
     match r {
         Reading::Integer(z) => put_integer(list, at, z),
         Reading::Float(bits) => put_float(list, at, bits),
-        Reading::Text(start, n) => {
-            let from = start.0 as usize;
-            put_text(list, at, &data[from..from + n as usize])
+        Reading::Text(text) => {
+            let from = text.start.0 as usize;
+            put_text(list, at, &data[from..from + text.size as usize])
         }
     }
 }
 
-// Reads a format from a state. With `put`, reading is accepted, and the list has room for the values.
+// Reads a format from a place on. With `put`, reading is accepted, and the list has room for the values: `put` stands beside a list that
+// is lent in both passes, since with an Option of it in its place the loop would test that for each value, and lend it anew.
 pub fn pass(
     table: &OptionTable,
     format: &[u8],
-    data: &[u8],
-    start: State,
+    start: Place,
     list: &mut [u8],
     put: bool,
 ) -> Result<Total, Refusal>
-    requires stands { Stands «data».now start }
-    requires room { (put ≡ true → Fits (table_at table.now.entries) format.now «data».now start list.old) }
-    ensures total { Checks (table_at table.now.entries) format.now «data».now start result }
-    ensures list { list.new ≡ cond put (list_after (table_at table.now.entries) format.now «data».now start list.old) list.old }
+    requires { (put ≡ true → Fits (table_at table.now.entries) format.now start.data.now start.state list.old) }
+    ensures total { Checks (table_at table.now.entries) format.now start.entry.data.now start.entry.state result }
+    ensures list { list.new ≡ cond put (list_after (table_at table.now.entries) format.now start.entry.data.now start.entry.state list.old) list.old }
 {
+    let data = start.data;
     let mut c = Cursor::new();
-    let mut s = start;
+    let mut s = start.state;
     let mut total: u64 = 0;
     while let Some((item, next)) = c.next(table, format)? {
         c = next;
         // Made anew for each item: the loop carries only the state.
         let place = Place { data, state: s };
-        match read_op(place, item.op())? {
+        match place.step(item.op())? {
             Fetched::Set(t) => s = parts(t),
             Fetched::Read(r, end) => {
                 if put {

@@ -14,7 +14,7 @@ use Rattle.read_pass.proofs.pass.Goals as goal
 use Rattle.read_pass.proofs.pass.Goals.{After-op, then-put, else-put}
 
 -- the item that the cursor read
-item : (c : After-op) → next_at (table_at c.args.table.now.entries) c.loop-item.c.at (drop c.loop-item.c.at c.args.format.now) ≡ accepted (some (c.op.result, c.in-Some.next.at))
+item : (c : After-op) → next_at (table_at c.args.table.now.entries) c.loop-item.c.at (drop c.loop-item.c.at c.args.format.now) ≡ accepted (some (c.op.result.op, c.in-Some.next.at))
 item c = sym (rw (c.in-Some.is, ← c.op.ensures) at c.in_ok-item.ensures)
 
 -- the next item stands further on
@@ -22,17 +22,13 @@ onward : (c : After-op) → (c.loop-item.c.at < c.in-Some.next.at) × (c.in-Some
 onward c = ahead (table_at c.args.table.now.entries) c.args.format.now c.loop-item.c.at (item c)
 
 pub loop-item-init : goal.loop-item-init
-loop-item-init c = passing_none _ c.requires.room c.new-c.ensures c.requires.stands
+loop-item-init c = passing_none _ c.requires c.new-c.ensures (c.args.start.within, c.args.start.limited)
 
 pub returns-in_err-item : goal.returns-in_err-item
 returns-in_err-item c =
     let p = err_from_is_err_and c.from_residual.result c.from_residual.ensures.1 in
     let r = passing_refusal c.loop-item.invariant (sym c.in_err-item.ensures) in
     record { total = rw (p.1, p.2) r.0; list = r.1 }
-
-pub read_op-requires : goal.read_op-requires
-read_op-requires c =
-    valid (table_at c.args.table.now.entries) c.args.format.now c.loop-item.c.at (item (goal.at.read_op-requires c).After-op) c.args.table.now.sizes
 
 pub returns-in_err-t : goal.returns-in_err-t
 returns-in_err-t c =

@@ -7,7 +7,7 @@ use Rattle.read_pass.proofs.Passing.{Passing}
 use Rattle.read_pass.proofs.pass.Given as goal
 
 abbrev pub invariant-loop-item : goal.invariant-loop-item
-invariant-loop-item l = Passing (table_at l.table.entries) l.format l.data l.initial.s l.initial.list l.put l.c.at l.s l.list l.total
+invariant-loop-item l = Passing (table_at l.table.entries) l.format l.start.data.now l.initial.s l.initial.list l.put l.c.at l.s l.list l.total
 
 abbrev pub decreases-loop-item : goal.decreases-loop-item
 decreases-loop-item l = length l.format - l.c.at
