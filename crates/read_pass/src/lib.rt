@@ -51,8 +51,8 @@ fn put_reading(list: &mut [u8], at: usize, data: &[u8], r: Reading)
     }
 }
 
-// Reads a format from a place on. With `put`, reading is accepted, and the list has room for the values: `put` stands beside a list that
-// is lent in both passes, since with an Option of it in its place the loop would test that for each value, and lend it anew.
+// Reads a format from a place on. With `put`, reading is accepted, and the list has room for the values. The flag stands beside the
+// list: once an `Option<&mut [u8]>` has been lent on to a call, a proof knows nothing more of what it holds.
 pub fn pass(
     table: &OptionTable,
     format: &[u8],
