@@ -1,5 +1,5 @@
 -- `Reader::field` meets its contract: at the end, or by the tag, which the content suits.
-use Rattle.std.proofs.Common.{◌+◌, sym, arith, lit≤, to_z-of_z}
+use Rattle.std.proofs.Common.{◌+◌, ◌-◌, sym, arith, lit≤, to_z-of_z}
 use Rattle.values.specs.Loading.{Loaded}
 use Rattle.values.proofs.Loading.{loaded}
 use Rattle.values.proofs.Reading.{at_end, within, text_field, other_field, eight_there, integer_field, float_field}
@@ -40,4 +40,4 @@ pub returns : goal.returns
 returns c =
     let r = c.args.self in
     let there = within r.list.now r.at r.well_formed c.if-self.false in
-    text_field r.list.now r.at r.well_formed c.if-self.false (sym c.if-is_number.ensures) c.if-tag-eq-TAG_OTHER.false _ (loaded _ _ 2 _ _ (lit≤ tt) (omega (arith, there)) (omega arith) c.get_word-n.ensures)
+    text_field r.list.now r.at r.well_formed c.if-self.false (sym c.if-is_number.ensures) c.if-tag-eq-TAG_OTHER.false _ (loaded _ (r.at + 1) 2 (r.at + 3 - (r.at + 1)) _ (lit≤ tt) (omega (arith, there)) (omega arith) c.get_word-n.ensures)
