@@ -9,7 +9,7 @@ use words::to_word;
 // The float of 64 bits, written into a value list and read from it.
 fn listed(bits: u64) -> ProperValue {
     let mut list = [0u8; 11];
-    fields::put_float(&mut list, 0, bits);
+    fields::put_float(&mut list, bits);
     if is_list(&list)
         && let Some((value, _)) = field_at(&list, 0)
     {

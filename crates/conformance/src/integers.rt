@@ -10,21 +10,21 @@ pub fn is_written(v: Vector, data: &[u8], fill: u8) -> bool
     requires { v.size ≤ 16 }
 {
     let mut out = [0u8; 16];
-    store::put(&mut out, 0, v.size, v.big, v.a, fill);
+    store::put(&mut out[..v.size], v.big, v.a, fill);
     data == out.as_slice()
 }
 
 // The field of an integer in a value list.
 pub fn is_integer_field(v: Vector, data: &[u8]) -> bool {
     let mut out = [0u8; 16];
-    fields::put_integer(&mut out, 0, v.a.cast_signed());
+    fields::put_integer(&mut out, v.a.cast_signed());
     data == out.as_slice()
 }
 
 // The field of a float.
 pub fn is_float_field(v: Vector, data: &[u8]) -> bool {
     let mut out = [0u8; 16];
-    fields::put_float(&mut out, 0, v.a);
+    fields::put_float(&mut out, v.a);
     data == out.as_slice()
 }
 

@@ -1,8 +1,9 @@
 // Puts the bytes of an item into the record, where `put` asks for it. The flag stands beside the buffer: once an
-// `Option<&mut [u8]>` has been lent on to a call, a proof knows nothing more of what it holds.
+// `Option<&mut [u8]>` has been lent on to a call, a proof knows nothing more of what it holds. The place stands beside it
+// too: without `put` it may lie behind the buffer, so that no part of it could be lent.
 #![tactic(auto)]
 
-ghost use Rattle.std.specs.Prelude.{◌≡◌, true, cond, ◌++◌, ◌+◌, ◌≤◌, length, replicate};
+ghost use Rattle.std.specs.Prelude.{◌≡◌, true, cond, ◌++◌, ◌+◌, ◌-◌, ◌≤◌, length, replicate};
 ghost use Rattle.std.proofs.Math.Seq.{paste};
 ghost use Rattle.definition.specs.Bytes.{laid};
 ghost use Rattle.word.specs.Words.{fill_of};
@@ -24,7 +25,17 @@ pub fn emit_zeros(put: bool, out: &mut [u8], at: usize, n: usize)
     if !put {
         return;
     }
-    put_zeros(out, at, n);
+    put_zeros(&mut out[at..at + n]);
+}
+
+// A number's part of the record: zeros, and the word.
+fn fill_number(out: &mut [u8], zeros: usize, big: bool, word: u64)
+    requires { zeros ≤ length out.old }
+    ensures { out.new ≡ replicate zeros 0 ++ laid big (length out.old - zeros) word (fill_of word) }
+{
+    let (front, number) = out.split_at_mut(zeros);
+    put_zeros(front);
+    put_integer(number, big, word, fill(word));
 }
 
 // Zeros, and a word in so many bytes after them.
@@ -43,8 +54,18 @@ pub fn emit_number(
     if !put {
         return;
     }
-    put_zeros(out, at, zeros);
-    put_integer(out, at + zeros, size, big, word, fill(word));
+    fill_number(&mut out[at..at + (zeros + size)], zeros, big, word);
+}
+
+// A text's part of the record: zeros, the text, and zeros.
+fn fill_text(out: &mut [u8], pads: usize, text: &[u8])
+    requires { pads + length text.now ≤ length out.old }
+    ensures { out.new ≡ replicate pads 0 ++ (text.now ++ replicate (length out.old - pads - length text.now) 0) }
+{
+    let (padding, rest) = out.split_at_mut(pads);
+    put_zeros(padding);
+    put_copy(rest, text);
+    put_zeros(&mut rest[text.len()..]);
 }
 
 // Zeros, and a text after them, with zeros after it.
@@ -55,9 +76,18 @@ pub fn emit_text(put: bool, out: &mut [u8], at: usize, pads: usize, text: &[u8],
     if !put {
         return;
     }
-    put_zeros(out, at, pads);
-    put_copy(out, at + pads, text);
-    put_zeros(out, at + pads + text.len(), zeros);
+    fill_text(&mut out[at..at + (pads + (text.len() + zeros))], pads, text);
+}
+
+// A counted text's part of the record: zeros, the length, and the text.
+fn fill_counted(out: &mut [u8], pads: usize, big: bool, size: usize, text: &[u8])
+    requires { length out.old ≡ pads + (size + length text.now) }
+    ensures { out.new ≡ replicate pads 0 ++ (laid big size (length text.now) 0 ++ text.now) }
+{
+    let (padding, rest) = out.split_at_mut(pads);
+    put_zeros(padding);
+    put_integer(&mut rest[..size], big, text.len() as u64, 0);
+    put_copy(&mut rest[size..], text);
 }
 
 // Zeros, and a text after them, with its length before it in so many bytes.
@@ -76,7 +106,11 @@ pub fn emit_counted(
     if !put {
         return;
     }
-    put_zeros(out, at, pads);
-    put_integer(out, at + pads, size, big, text.len() as u64, 0);
-    put_copy(out, at + pads + size, text);
+    fill_counted(
+        &mut out[at..at + (pads + (size + text.len()))],
+        pads,
+        big,
+        size,
+        text,
+    );
 }

@@ -1,12 +1,12 @@
 -- A pass: the values that were read so far, the length of their list, and the list at the front of the buffer.
-use Prim.Native.Nat.{ℕ, ◌+◌, ◌^◌, ◌≤◌, ◌<◌}
+use Prim.Native.Nat.{ℕ, ◌+◌, ◌-◌, ◌^◌, ◌≤◌, ◌<◌}
 use native.Mathlib.Omega.{arith}
 use mathlib.Core.Path.{◌≡◌, refl, sym, ap, ◌∙◌}
 use mathlib.Core.Bool.{Bool, true, false, cond}
 use mathlib.Core.List.{List, [], ◌∷◌, ◌++◌}
 use mathlib.Core.Option.{none, some}
-use lib.ListN.{length, drop, length-append, length-drop}
-use lib.Seq.{paste}
+use borrow.Rule.Slice.PartMut.{put_mid}
+use lib.ListN.{length, take, drop, length-append, length-drop, length-take}
 use Rattle.std.specs.Prelude.{Ok, Err}
 use Rattle.definition.specs.Answers.{Checked, refused, accepted}
 use Rattle.definition.specs.Refusals.{refusal_number}
@@ -24,7 +24,7 @@ use Rattle.definition.specs.declared.Refusal.{Refusal}
 use Rattle.laws.proofs.Answers.{never, after_accepted}
 use Rattle.laws.proofs.Lists.{list_append}
 use Rattle.format.specs.Steps.{next_at}
-use Rattle.store.proofs.Pasting.{paste_front}
+use Rattle.store.proofs.Pasting.{put_behind}
 use Rattle.decode.specs.Readings.{value_of, Inside}
 use Rattle.fetch.specs.Fetching.{Stands, place_in, Fetches}
 use Rattle.decode.specs.declared.Reading.{Reading}
@@ -132,20 +132,19 @@ module _ {t : Table} {f d : List ℕ} {s₀ : State} {b : List ℕ} {put : Bool}
         exact : total ≡ length sofar
         exact = let a = h.fits i in omega (arith, h.counted, within h.so_far a.accepts, a.room)
 
-        pub passing_room : (total + size_of v ≤ length l) × Inside d v
-        passing_room =
+        pub passing_room : (k : ℕ) → k ≡ length l - total → (size_of v ≤ length (take k (drop total l))) × Inside d v
+        passing_room k e =
             let a = h.fits i in
             let m = list_append h.done (value_of d v ∷ []) in
-            (omega (arith, exact, within next a.accepts, m, size_is d v inside, passing_length, a.room), inside)
+            (omega (arith, exact, within next a.accepts, m, size_is d v inside, passing_length, a.room, length-drop total l, length-take {A = ℕ}), inside)
 
-        pub passing_put : (k : List ℕ) → k ≡ paste l total one (size_of v) → k ≡ holding put b more
-        passing_put k c =
-            let all : length sofar + size_of v ≡ length (sofar ++ one) = omega (arith, length-append sofar one, size_is d v inside) in
-            let x : l ≡ fronted sofar b = h.holds ∙ ap (λ (x : Bool). holding x b h.done) i in
-            c
-            ∙ ap (λ (j : ℕ). paste l j one (size_of v)) exact
-            ∙ ap (λ (y : List ℕ). paste y (length sofar) one (size_of v)) x
-            ∙ paste_front b sofar (length sofar) refl one (size_of v) (size_is d v inside)
+        -- the field p at the front of the part behind what was read so far
+        pub passing_put : (p : List ℕ) (k : ℕ) → length l ≤ total + k → p ≡ one ++ drop (size_of v) (take k (drop total l)) → put_mid total k l p ≡ holding put b more
+        passing_put p k n e =
+            let size : length one ≡ size_of v = size_is d v inside in
+            let all : total + length one ≡ length (sofar ++ one) = omega (arith, exact, length-append sofar one) in
+            let x : l ≡ sofar ++ drop total b = h.holds ∙ ap (λ (x : Bool). holding x b h.done) i ∙ ap (λ (j : ℕ). sofar ++ drop j b) (sym exact) in
+            put_behind b l p sofar one total k (sym exact) x n (e ∙ ap (λ (j : ℕ). one ++ drop j (take k (drop total l))) (sym size))
             ∙ ap (λ (j : ℕ). (sofar ++ one) ++ drop j b) all
             ∙ ap (λ (y : List ℕ). fronted y b) (sym (list_parts h.done (value_of d v ∷ [])))
             ∙ sym (ap (λ (x : Bool). holding x b more) i)

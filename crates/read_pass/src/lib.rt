@@ -1,8 +1,7 @@
 // A pass over a format: every check, the length of the value list, and where it is asked for, the list.
 #![tactic(auto)]
 
-ghost use Rattle.std.specs.Prelude.{◌≡◌, true, cond, [], ◌∷◌, ◌+◌, ◌≤◌, length};
-ghost use Rattle.std.proofs.Math.Seq.{paste};
+ghost use Rattle.std.specs.Prelude.{◌≡◌, true, cond, [], ◌∷◌, ◌++◌, ◌≤◌, length, drop};
 ghost use Rattle.definition.specs.Lists.{list_of};
 ghost use Rattle.decode.specs.Readings.{value_of, Inside};
 ghost use Rattle.options.specs.Packed.{table_at};
@@ -35,18 +34,18 @@ fn size_of(r: Reading) -> u64
     }
 }
 
-// Puts the field of a value at `at`.
-fn put_reading(list: &mut [u8], at: usize, data: &[u8], r: Reading)
-    requires room { at + size_of r ≤ length list.old }
+// Puts the field of a value at the front.
+fn put_reading(list: &mut [u8], data: &[u8], r: Reading)
+    requires room { size_of r ≤ length list.old }
     requires inside { Inside «data».now r }
-    ensures { list.new ≡ paste list.old at (list_of (value_of «data».now r ∷ [])) (size_of r) }
+    ensures { list.new ≡ list_of (value_of «data».now r ∷ []) ++ drop (size_of r) list.old }
 {
     match r {
-        Reading::Integer(z) => put_integer(list, at, z),
-        Reading::Float(bits) => put_float(list, at, bits),
+        Reading::Integer(z) => put_integer(list, z),
+        Reading::Float(bits) => put_float(list, bits),
         Reading::Text(text) => {
             let from = text.start.0 as usize;
-            put_text(list, at, &data[from..from + text.size as usize])
+            put_text(list, &data[from..from + text.size as usize])
         }
     }
 }
@@ -76,7 +75,7 @@ pub fn pass(
             Fetched::Set(t) => s = parts(t),
             Fetched::Read(r, end) => {
                 if put {
-                    put_reading(list, total as usize, data, r);
+                    put_reading(&mut list[total as usize..], data, r);
                 }
                 total = sum(total, size_of(r));
                 s = at_offset(s, end);

@@ -1,8 +1,7 @@
-// Writes into a lent buffer.
+// Writes into lent bytes.
 #![tactic(auto)]
 
-ghost use Rattle.std.specs.Prelude.{◌≡◌, ◌+◌, ◌≤◌, length, replicate};
-ghost use Rattle.std.proofs.Math.Seq.{paste};
+ghost use Rattle.std.specs.Prelude.{◌≡◌, ◌++◌, ◌≤◌, length, drop, replicate};
 ghost use Rattle.definition.specs.Bytes.{laid};
 ghost use Rattle.words.specs.Digits.{byte_of};
 
@@ -20,53 +19,54 @@ fn byte_of(word: u64, fill: u8, k: usize) -> u8
     }
 }
 
-// Writes an integer byte by byte.
-fn put_bytes(out: &mut [u8], at: usize, size: usize, big: bool, word: u64, fill: u8)
-    requires { at + size ≤ length out.old }
-    ensures { out.new ≡ paste out.old at (laid big size word fill) size }
+// Writes an integer byte by byte. The size stands beside the bytes for the constants of `put`: with `out.len()` here, its
+// arms are one, and the loop never becomes a store.
+#[tactic(auto, using(crate::proofs::Bytes::laid_is))]
+fn put_bytes(out: &mut [u8], size: usize, big: bool, word: u64, fill: u8)
+    requires { size ≡ length out.old }
+    ensures { out.new ≡ laid big (length out.old) word fill }
 {
     for j in 0..size {
-        out[at + j] = byte_of(word, fill, place(big, size, j));
+        out[j] = byte_of(word, fill, place(big, size, j));
     }
 }
 
-// Writes an integer of size bytes at `at`: the low bytes of a word, and above eight the fill. Where the size is a
+// Writes an integer into all of the bytes: the low bytes of a word, and above eight the fill. Where their count is a
 // constant, the loop of `put_bytes` becomes one store. One match on the four sizes would become a jump table, which costs
 // more.
-pub fn put(out: &mut [u8], at: usize, size: usize, big: bool, word: u64, fill: u8)
-    requires { at + size ≤ length out.old }
-    ensures { out.new ≡ paste out.old at (laid big size word fill) size }
+pub fn put(out: &mut [u8], big: bool, word: u64, fill: u8)
+    ensures { out.new ≡ laid big (length out.old) word fill }
 {
+    let size = out.len();
     if size < 3 {
         match size {
-            1 => put_bytes(out, at, 1, big, word, fill),
-            2 => put_bytes(out, at, 2, big, word, fill),
-            _ => put_bytes(out, at, size, big, word, fill),
+            1 => put_bytes(out, 1, big, word, fill),
+            2 => put_bytes(out, 2, big, word, fill),
+            _ => put_bytes(out, size, big, word, fill),
         }
     } else {
         match size {
-            4 => put_bytes(out, at, 4, big, word, fill),
-            8 => put_bytes(out, at, 8, big, word, fill),
-            _ => put_bytes(out, at, size, big, word, fill),
+            4 => put_bytes(out, 4, big, word, fill),
+            8 => put_bytes(out, 8, big, word, fill),
+            _ => put_bytes(out, size, big, word, fill),
         }
     }
 }
 
-// Writes n zeros at `at`. The `fill` of std writes the last element apart, which costs some 13 instructions more for each call.
-#[tactic(auto, using(std::proofs::lemmas::List::Edits::fill_from_more))]
-pub fn put_zeros(out: &mut [u8], at: usize, n: usize)
-    requires { at + n ≤ length out.old }
-    ensures { out.new ≡ paste out.old at (replicate n 0) n }
+// Writes zeros into all of the bytes. The `fill` of std writes the last element apart, which costs some 13 instructions more
+// for each call.
+pub fn put_zeros(out: &mut [u8])
+    ensures { out.new ≡ replicate (length out.old) 0 }
 {
-    for j in 0..n {
-        out[at + j] = 0;
+    for b in out {
+        *b = 0;
     }
 }
 
-// Writes a text at `at`.
-pub fn put_copy(out: &mut [u8], at: usize, text: &[u8])
-    requires { at + length text.now ≤ length out.old }
-    ensures { out.new ≡ paste out.old at text.now (length text.now) }
+// Writes a text at the front.
+pub fn put_copy(out: &mut [u8], text: &[u8])
+    requires { length text.now ≤ length out.old }
+    ensures { out.new ≡ text.now ++ drop (length text.now) out.old }
 {
-    out[at..at + text.len()].copy_from_slice(text);
+    out[..text.len()].copy_from_slice(text);
 }

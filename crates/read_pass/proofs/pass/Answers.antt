@@ -1,7 +1,7 @@
 -- What the cursor's answer and the item's say of the pass.
 use Prim.Native.Nat.{◌<◌, ◌≤◌}
 use native.Mathlib.Omega.{arith}
-use mathlib.Core.Path.{◌≡◌, sym, ◌∙◌}
+use mathlib.Core.Path.{◌≡◌, refl, sym, ◌∙◌}
 use mathlib.Core.Option.{some}
 use lib.ListN.{length, drop}
 use Rattle.std.proofs.lemmas.Result.{err_from_is_err_and}
@@ -45,7 +45,7 @@ loop-item-preserved-in-Set c =
 
 pub put_reading-requires-clause-room : goal.put_reading-requires-clause-room
 put_reading-requires-clause-room c =
-    (passing_room c.loop-item.invariant (item (goal.at.put_reading-requires-clause-room c).After-op) (rw c.in-Read.is at c.in_ok-t.ensures) c.if-put.true (omega arith)).0
+    (passing_room c.loop-item.invariant (item (goal.at.put_reading-requires-clause-room c).After-op) (rw c.in-Read.is at c.in_ok-t.ensures) c.if-put.true (omega arith) _ refl).0
 
 pub loop-item-smaller : goal.loop-item-smaller
 loop-item-smaller c = omega (arith, onward (goal.at.loop-item-smaller c).After-op)
@@ -57,7 +57,7 @@ loop-item-preserved c =
     let h = c.loop-item.invariant in
     passing_more h o g
     (elim c.if-put.branch [
-      | then-put w ↦ passing_put h o g w.if-put.true (omega arith) _ (w.list-is ∙ w.put_reading.ensures)
+      | then-put w ↦ w.list-is ∙ passing_put h o g w.if-put.true (omega arith) _ _ (omega arith) w.put_reading.ensures
       | else-put w ↦ w.list-is ∙ passing_kept h o g w.if-put.false
     ])
     c.size_of.ensures.0
