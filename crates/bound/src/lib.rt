@@ -4,13 +4,16 @@
 ghost use Rattle.std.specs.Prelude.{◌≡◌, ◌+◌, min};
 ghost use Rattle.definition.specs.Bound as bounds;
 ghost use Rattle.definition.specs.Calls.{list_bound};
+ghost use Rattle.definition.specs.Ops.{ops};
 ghost use Rattle.definition.specs.Refusals.{answer_of};
+ghost use Rattle.definition.specs.States as states;
 ghost use Rattle.options.specs.Packed.{table_at};
 ghost use Rattle.bound.specs.Fields.{bound_aligned, bound_field, bound_pad};
 
-use align::{MAX_LENGTH, alignment, longer, natural, parts, set, start};
+use align::{MAX_LENGTH, alignment, longer, natural, set, start};
 use definition::{Field, Op, Refusal, State};
-use format::cursor::Cursor;
+use format::walk::try_fold;
+use items::ValidOp;
 use options::{OptionTable, table};
 
 // The length of a text's field, of at most 65,535 bytes.
@@ -56,10 +59,10 @@ fn bound_pad(s: State, n: u64) -> Result<State, Refusal>
 
 // The sum after an item.
 #[tactic(auto, unfolding(definition::specs::Bound::bound_op))]
-fn bound_op(s: State, op: Op, data_length: u64) -> Result<State, Refusal>
-    ensures { answer_of result ≡ bounds.bound_op data_length s op }
+fn bound_op(s: State, item: ValidOp, data_length: u64) -> Result<State, Refusal>
+    ensures { answer_of result ≡ bounds.bound_op data_length s item.op }
 {
-    match op {
+    match item.op {
         Op::Blank => Ok(s),
         Op::Set(x) => Ok(set(s, x)),
         Op::Pad(n, _) => bound_pad(s, n),
@@ -67,21 +70,17 @@ fn bound_op(s: State, op: Op, data_length: u64) -> Result<State, Refusal>
     }
 }
 
-// The list bound by the table that is lent.
-fn bound_by(table: &OptionTable, format: &[u8], data_length: u64) -> Result<u64, Refusal>
-    ensures { answer_of result ≡ bounds.bound (table_at table.now.entries) format.now data_length }
+// The state that a format leads to, by the table that is lent.
+fn bounding(table: &OptionTable, format: &[u8], data_length: u64) -> Result<State, Refusal>
+    ensures { answer_of result ≡ bounds.bounding data_length states.start (ops (table_at table.now.entries) format.now) }
 {
-    let mut c = Cursor::new();
-    let mut s = start();
-    while let Some((item, next)) = c.next(table, format)? {
-        s = parts(bound_op(s, item.op(), data_length)?);
-        c = next;
-    }
-    Ok(s.length)
+    try_fold(table, format, start(), |s, item| {
+        bound_op(s, item, data_length)
+    })
 }
 
 // The list bound of a format and a data length.
-#[tactic(auto, unfolding(definition::specs::Calls::list_bound))]
+#[tactic(auto, unfolding(definition::specs::Calls::list_bound, definition::specs::Bound::bound))]
 pub fn list_bound(format: &[u8], data_length: u64) -> Result<u64, Refusal>
     ensures { answer_of result ≡ list_bound format.now data_length }
 {
@@ -90,5 +89,5 @@ pub fn list_bound(format: &[u8], data_length: u64) -> Result<u64, Refusal>
     }
     // Copied once a call: each use of a constant copies it anew.
     let options = table();
-    bound_by(&options, format, data_length)
+    Ok(bounding(&options, format, data_length)?.length)
 }

@@ -20,10 +20,11 @@ pub struct Front {
 pub fn settings(table: &OptionTable, format: &[u8]) -> Front
     ensures { Leads (table_at table.now.entries) format.now result.at result.state }
 {
+    // A loop, since it stops at the first item that is neither: a walk goes on to the end. A refusal ends it too.
     let mut c = Cursor::new();
     let mut s = start();
-    while let Ok(Some((item, next))) = c.next(table, format) {
-        match item.op() {
+    while let Some((item, next)) = c.next(table, format).unwrap_or(None) {
+        match item.op().op {
             Op::Blank => {}
             Op::Set(x) => s = set(s, x),
             Op::Pad(_, _) | Op::Put(_) => break,

@@ -1,33 +1,26 @@
 // The size of a format.
 #![tactic(auto)]
 
-ghost use Rattle.std.specs.Prelude.{◌≡◌, ◌≤◌, T};
+ghost use Rattle.std.specs.Prelude.{◌≡◌};
 ghost use Rattle.definition.specs.Measuring.{size_of, measure_pad, measure_op, measure_from};
 ghost use Rattle.definition.specs.Calls.{string_packsize};
-ghost use Rattle.laws.proofs.Fields.{valid_field};
-ghost use Rattle.definition.specs.Refusals.{answer_of};
-ghost use Rattle.laws.proofs.Ops.{Limited, valid_op};
+ghost use Rattle.definition.specs.Refusals.{answer_of, answer_by};
+ghost use Rattle.definition.specs.States as states;
+ghost use Rattle.laws.proofs.Ops.{Limited};
 ghost use Rattle.options.specs.Packed.{table_at};
 ghost use Rattle.measure.specs.Fields.{measure_field};
 
-use align::{longer, natural, padding, parts, set, start};
+use align::{NaturalAlignment, longer, padding, set, start};
 use definition::{Field, Op, Refusal, State};
-use format::cursor::Cursor;
+use format::walk::try_fold;
+use items::{ValidField, ValidOp};
 use options::{OptionTable, table};
 
-// The state after an alignment and n bytes. Mostly there is nothing to fill up. Each step asks for a sound limit, since a State may have
-// any: writing goes on from whatever state a caller gives, and refuses it by a test.
-fn measure_pad(s: State, natural: u64, n: u64) -> Result<State, Refusal>
-    requires limited { Limited s }
-    requires positive { 1 ≤ natural }
-    ensures { answer_of result ≡ measure_pad s natural n }
-{
-    let p = padding(s, natural)?;
-    if p == 0 {
-        return longer(s, n);
-    }
-    let t = longer(s, p)?;
-    longer(t, n)
+// Between items: a state, whose limit is a power of two of 1 to 16.
+#[derive(Clone, Copy)]
+struct Place {
+    state: State,
+    ghost limited: { Limited state },
 }
 
 // The size of a field; z and s have none.
@@ -40,42 +33,61 @@ fn size_of(f: Field) -> Result<u64, Refusal>
     }
 }
 
-// The state after a field.
-fn measure_field(s: State, f: Field) -> Result<State, Refusal>
-    requires limited { Limited s }
-    requires valid_field { T (valid_field f) }
-    ensures { answer_of result ≡ measure_field s f }
-{
-    measure_pad(s, natural(f), size_of(f)?)
-}
+impl Place {
+    ghost use Rattle.measure.specs.Places.{state_of};
 
-// The state after an item.
-#[tactic(auto, unfolding(definition::specs::Measuring::measure_op))]
-fn measure_op(s: State, op: Op) -> Result<State, Refusal>
-    requires limited { Limited s }
-    requires valid_op { T (valid_op op) }
-    ensures { answer_of result ≡ measure_op s op }
-{
-    match op {
-        Op::Blank => Ok(s),
-        Op::Set(x) => Ok(set(s, x)),
-        Op::Pad(n, k) => measure_pad(s, n, k),
-        Op::Put(f) => measure_field(s, f),
+    // Before the first item.
+    fn first() -> Place
+        ensures { result.state ≡ states.start }
+    {
+        Place { state: start() }
     }
-}
 
-// The state that a format leads to from a state, by the table that is lent.
-fn measure_from(table: &OptionTable, format: &[u8], from: State) -> Result<State, Refusal>
-    requires { Limited from }
-    ensures { answer_of result ≡ measure_from (table_at table.now.entries) from format.now }
-{
-    let mut c = Cursor::new();
-    let mut s = from;
-    while let Some((item, next)) = c.next(table, format)? {
-        s = parts(measure_op(s, item.op())?);
-        c = next;
+    // Some bytes on.
+    fn onward(self, n: u64) -> Result<Place, Refusal>
+        ensures { answer_by state_of result ≡ states.longer self.state n }
+    {
+        let state = longer(self.state, n)?;
+        Ok(Place { state })
     }
-    Ok(s)
+
+    // Behind an alignment and n bytes. The sum is counted up to the greatest that 64 bits hold, which is too long in any case.
+    #[tactic(auto, using(crate::proofs::Sums::longer_capped))]
+    fn pad(self, natural: NaturalAlignment, n: u64) -> Result<Place, Refusal>
+        ensures { answer_by state_of result ≡ measure_pad self.state natural.bytes n }
+    {
+        let zeros = padding(self.state, natural)?;
+        self.onward(zeros.saturating_add(n))
+    }
+
+    // Behind a field.
+    fn field(self, f: ValidField) -> Result<Place, Refusal>
+        ensures { answer_by state_of result ≡ measure_field self.state f.field }
+    {
+        self.pad(f.natural(), size_of(f.field)?)
+    }
+
+    // Behind an item.
+    #[tactic(auto, unfolding(definition::specs::Measuring::measure_op))]
+    fn step(self, item: ValidOp) -> Result<Place, Refusal>
+        ensures { answer_by state_of result ≡ measure_op self.state item.op }
+    {
+        match item.op {
+            Op::Blank => Ok(self),
+            Op::Set(x) => Ok(Place {
+                state: set(self.state, x),
+            }),
+            Op::Pad(n, k) => self.pad(NaturalAlignment { bytes: n }, k),
+            Op::Put(f) => self.field(ValidField { field: f }),
+        }
+    }
+
+    // Behind the last item of a format, by the table that is lent.
+    fn last(table: &OptionTable, format: &[u8]) -> Result<Place, Refusal>
+        ensures { answer_by state_of result ≡ measure_from (table_at table.now.entries) states.start format.now }
+    {
+        try_fold(table, format, Place::first(), Place::step)
+    }
 }
 
 // The size of a format.
@@ -85,5 +97,5 @@ pub fn string_packsize(format: &[u8]) -> Result<u64, Refusal>
 {
     // Copied once a call: each use of a constant copies it anew.
     let options = table();
-    Ok(measure_from(&options, format, start())?.length)
+    Ok(Place::last(&options, format)?.state.length)
 }

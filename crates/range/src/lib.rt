@@ -3,15 +3,15 @@
 
 ghost use Rattle.std.specs.Prelude.{◌≡◌, Bool, ℕ, ◌+◌, ◌≤◌, ◌<◌, ◌^◌, T, leb, ltb};
 ghost use Rattle.definition.specs.Refusals.{answer_of, answer_by};
-ghost use Rattle.laws.proofs.Fields.{valid_field};
 ghost use Rattle.laws.proofs.Ops.{Limited};
 ghost use Rattle.options.specs.Packed.{table_at};
 ghost use Rattle.lengths.specs.Lengths as ranges;
 ghost use Rattle.range.specs.Extents.{left_of, text_extents};
 
-use align::{longer, natural, padding, set, start, state};
+use align::{NaturalAlignment, longer, padding, set, start, state};
 use definition::{Field, Op, Refusal, State};
-use format::cursor::Cursor;
+use format::walk::try_fold;
+use items::{Size, ValidField, ValidOp};
 use lengths::Range;
 use load::get_word;
 use options::{OptionTable, table};
@@ -59,20 +59,18 @@ fn text_extents(pairs: &[u8], beside: u64, most: u64) -> Result<(Range, &[u8]), 
 }
 
 // The longest text, of those that a pair can say, that a length of size bytes can hold.
-fn most_counted(size: u64) -> u64
-    requires { 1 ≤ size }
-    ensures { (m : ℕ) → m < 65536 → ltb m (256 ^ size) ≡ leb m result }
+fn most_counted(size: Size) -> u64
+    ensures { (m : ℕ) → m < 65536 → ltb m (256 ^ size.bytes) ≡ leb m result }
 {
-    if size < 2 { 255 } else { MAX_TEXT }
+    if size.bytes < 2 { 255 } else { MAX_TEXT }
 }
 
 // The bytes of a field with the least text and with the greatest, and the pairs left.
 #[tactic(auto, unfolding(lengths::specs::Lengths::extents))]
-fn extents(f: Field, pairs: &[u8]) -> Result<(Range, &[u8]), Refusal>
-    requires { T (valid_field f) }
-    ensures { answer_by left_of result ≡ ranges.extents f pairs.now }
+fn extents(f: ValidField, pairs: &[u8]) -> Result<(Range, &[u8]), Refusal>
+    ensures { answer_by left_of result ≡ ranges.extents f.field pairs.now }
 {
-    match f {
+    match f.field {
         Field::Number(_, n) | Field::Chars(n) => Ok((
             Range {
                 least: n,
@@ -81,14 +79,14 @@ fn extents(f: Field, pairs: &[u8]) -> Result<(Range, &[u8]), Refusal>
             pairs,
         )),
         Field::ZeroEnded => text_extents(pairs, 1, MAX_TEXT),
-        Field::Counted(n) => text_extents(pairs, n, most_counted(n)),
+        Field::Counted(n) => text_extents(pairs, n, most_counted(Size { bytes: n })),
     }
 }
 
 impl<'a> Place<'a> {
+    ghost use Rattle.definition.specs.Ops.{ops};
     ghost use Rattle.definition.specs.States.{start};
     ghost use Rattle.definition.specs.declared.Op.TheVariants.{Pad, Put};
-    ghost use Rattle.laws.proofs.Ops.{valid_op};
     ghost use Rattle.range.specs.Places.{places_of};
 
     // Before the first item.
@@ -103,9 +101,8 @@ impl<'a> Place<'a> {
     }
 
     // The zeros before what has a natural alignment, behind the least length and behind the greatest.
-    fn paddings(self, natural: u64) -> Result<Range, Refusal>
-        requires { 1 ≤ natural }
-        ensures { answer_of result ≡ ranges.paddings (places_of self.entry) natural }
+    fn paddings(self, natural: NaturalAlignment) -> Result<Range, Refusal>
+        ensures { answer_of result ≡ ranges.paddings (places_of self.entry) natural.bytes }
     {
         let s = self.greatest;
         let least = padding(state(s.big, s.limit, self.least), natural)?;
@@ -114,12 +111,12 @@ impl<'a> Place<'a> {
     }
 
     // Some zeros and bytes on, with the pairs that are then left.
+    #[tactic(auto, using(measure::proofs::Sums::longer_capped))]
     fn onward(self, zeros: Range, bytes: Range, pairs: &'a [u8]) -> Result<Place<'a>, Refusal>
         requires { self.least + (zeros.least + bytes.least) ≤ self.greatest.length + (zeros.greatest + bytes.greatest) }
         ensures { answer_by places_of result ≡ ranges.onward (places_of self.entry) zeros (bytes, pairs.now) }
     {
-        let padded = longer(self.greatest, zeros.greatest)?;
-        let greatest = longer(padded, bytes.greatest)?;
+        let greatest = longer(self.greatest, zeros.greatest.saturating_add(bytes.greatest))?;
         Ok(Place {
             greatest,
             least: self.least + (zeros.least + bytes.least),
@@ -129,9 +126,8 @@ impl<'a> Place<'a> {
 
     // Behind an alignment and n bytes.
     #[tactic(auto, unfolding(lengths::specs::Lengths::range_op))]
-    fn pad(self, natural: u64, n: u64) -> Result<Place<'a>, Refusal>
-        requires { 1 ≤ natural }
-        ensures { answer_by places_of result ≡ ranges.range_op (places_of self.entry) (Pad natural n) }
+    fn pad(self, natural: NaturalAlignment, n: u64) -> Result<Place<'a>, Refusal>
+        ensures { answer_by places_of result ≡ ranges.range_op (places_of self.entry) (Pad natural.bytes n) }
     {
         let zeros = self.paddings(natural)?;
         let bytes = Range {
@@ -143,53 +139,42 @@ impl<'a> Place<'a> {
 
     // Behind a field.
     #[tactic(auto, unfolding(lengths::specs::Lengths::range_op))]
-    fn field(self, f: Field) -> Result<Place<'a>, Refusal>
-        requires { T (valid_field f) }
-        ensures { answer_by places_of result ≡ ranges.range_op (places_of self.entry) (Put f) }
+    fn field(self, f: ValidField) -> Result<Place<'a>, Refusal>
+        ensures { answer_by places_of result ≡ ranges.range_op (places_of self.entry) (Put f.field) }
     {
-        let zeros = self.paddings(natural(f))?;
+        let zeros = self.paddings(f.natural())?;
         let (bytes, pairs) = extents(f, self.pairs)?;
         self.onward(zeros, bytes, pairs)
     }
 
     // Behind an item.
     #[tactic(auto, unfolding(lengths::specs::Lengths::range_op))]
-    fn step(self, op: Op) -> Result<Place<'a>, Refusal>
-        requires { T (valid_op op) }
-        ensures { answer_by places_of result ≡ ranges.range_op (places_of self.entry) op }
+    fn step(self, item: ValidOp) -> Result<Place<'a>, Refusal>
+        ensures { answer_by places_of result ≡ ranges.range_op (places_of self.entry) item.op }
     {
-        match op {
+        match item.op {
             Op::Blank => Ok(self),
             Op::Set(x) => Ok(Place {
                 greatest: set(self.greatest, x),
                 least: self.least,
                 pairs: self.pairs,
             }),
-            Op::Pad(n, k) => self.pad(n, k),
-            Op::Put(f) => self.field(f),
+            Op::Pad(n, k) => self.pad(NaturalAlignment { bytes: n }, k),
+            Op::Put(f) => self.field(ValidField { field: f }),
         }
     }
-}
 
-// The two lengths by the table that is lent.
-fn range_by(table: &OptionTable, format: &[u8], pairs: &[u8]) -> Result<Range, Refusal>
-    ensures { answer_of result ≡ ranges.range_by (table_at table.now.entries) format.now pairs.now }
-{
-    let mut c = Cursor::new();
-    let mut p = Place::first(pairs);
-    while let Some((item, next)) = c.next(table, format)? {
-        p = p.step(item.op())?;
-        c = next;
+    // Behind the last item of a format, by the table that is lent.
+    fn last(table: &OptionTable, format: &[u8], pairs: &'a [u8]) -> Result<Place<'a>, Refusal>
+        ensures { answer_by places_of result ≡ ranges.ranging (ranges.places start start pairs.now) (ops (table_at table.now.entries) format.now) }
+    {
+        try_fold(table, format, Place::first(pairs), Place::step)
     }
-    Ok(Range {
-        least: p.least,
-        greatest: p.greatest.length,
-    })
 }
 
 // The least and the greatest length of a record of a format: the pairs have, for each z or s in order, the least and the greatest
 // length of its text, two bytes each, big-endian.
-#[tactic(auto, unfolding(lengths::specs::Lengths::packsize_range))]
+#[tactic(auto, unfolding(lengths::specs::Lengths::packsize_range, lengths::specs::Lengths::range_by))]
 pub fn packsize_range(format: &[u8], pairs: &[u8]) -> Result<Range, Refusal>
     ensures { answer_of result ≡ ranges.packsize_range format.now pairs.now }
 {
@@ -198,5 +183,9 @@ pub fn packsize_range(format: &[u8], pairs: &[u8]) -> Result<Range, Refusal>
     }
     // Copied once a call: each use of a constant copies it anew.
     let options = table();
-    range_by(&options, format, pairs)
+    let end = Place::last(&options, format, pairs)?;
+    Ok(Range {
+        least: end.least,
+        greatest: end.greatest.length,
+    })
 }

@@ -8,5 +8,5 @@ use Rattle.range.proofs.Place.field.Goals as goal
 pub onward-requires : goal.onward-requires
 onward-requires c =
     let p = c.args.self in
-    zeros_order (with_length p.greatest p.least) p.greatest (natural c.args.f) _ (rw (c.in_ok-zeros.was, c.natural.ensures) at c.paddings.ensures) refl p.ordered
-    _ _ (bytes_order c.args.f p.pairs.now _ (rw c.in_ok-bytes.was at c.extents.ensures))
+    zeros_order (with_length p.greatest p.least) p.greatest (natural c.args.f.field) _ (rw c.natural.ensures at c.in_ok-zeros.ensures) refl p.ordered
+    _ _ (bytes_order c.args.f.field p.pairs.now _ c.in_ok-bytes.ensures)

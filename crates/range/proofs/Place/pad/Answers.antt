@@ -7,5 +7,5 @@ use Rattle.range.proofs.Place.pad.Goals as goal
 
 pub onward-requires : goal.onward-requires
 onward-requires c =
-    zeros_order (with_length c.args.self.greatest c.args.self.least) c.args.self.greatest c.args.natural _ (rw c.in_ok-zeros.was at c.paddings.ensures) refl c.args.self.ordered
+    zeros_order (with_length c.args.self.greatest c.args.self.least) c.args.self.greatest c.args.natural.bytes _ c.in_ok-zeros.ensures refl c.args.self.ordered
     c.args.n c.args.n (omega arith)
