@@ -3,7 +3,7 @@ use Rattle.std.proofs.Common.{◌≡◌, ℕ, zero, suc, ◌+◌, ◌-◌, ◌*�
 use Rattle.std.proofs.Common.{lt_of_lt_of_le, lt_of_le_of_lt, le_of_eq, mod-lt, mod-eq_of_lt, mul_right_comm, mul_assoc, mul-one, mul-lt-mul_of_pos_right, lt_of_mul-lt-mul_right, arith, pow_pos, pow_mono, pow-add, shl_lt}
 use mathlib.Core.Bool.{false≢true}
 use native.Mathlib.Nat.{eq_of_mul-eq-mul_right, mul-mod_left}
-use borrow.Author.Tests.{le-leb, lt-leb}
+use borrow.Author.Tests.{le-leb, lt-leb, ltb-false}
 use lib.Ieee.{Float, nan, inf, fin, binary64, up, down, units, round, rem, neg, is_nan, fits, odd, of_int, of_fields, of_bits, to_bits}
 use lib.Ieee.Fits.{down_pos, rem-fits, round_is}
 use lib.Ieee.Bits.{of_bits-to_bits}
@@ -67,10 +67,14 @@ whole (fin t n e) s m j h v =
     (round_same binary64 s (left n e) d (w % 2 ^ 64) 1 (down_pos e) (omega arith) (mul-one (left n e) ∙ cut))
 
 -- of a number shifted by 64 places and more nothing is left
-pub shifted_out : (m k : ℕ) → 64 ≤ k → 0 ≡ m * 2 ^ k % 2 ^ 64
-shifted_out m k h =
-    let sub : k ≡ k - 64 + 64 = omega arith in
-    sym (ap (λ (n : ℕ). m * 2 ^ n % 2 ^ 64) sub ∙ rw (pow-add 2 (k - 64) 64, ← mul_assoc m (2 ^ (k - 64)) (2 ^ 64)) (mul-mod_left (m * 2 ^ (k - 64)) (2 ^ 64)))
+pub shifted : (m k : ℕ) → cond (ltb k 64) (m * 2 ^ k % 2 ^ 64) 0 ≡ m * 2 ^ k % 2 ^ 64
+shifted m k = go (ltb k 64) refl
+  where
+    go : (t : Bool) → ltb k 64 ≡ t → cond t (m * 2 ^ k % 2 ^ 64) 0 ≡ m * 2 ^ k % 2 ^ 64
+    go true e = refl
+    go false e =
+        let sub : k ≡ k - 64 + 64 = omega (arith, ltb-false k 64 e) in
+        sym (ap (λ (n : ℕ). m * 2 ^ n % 2 ^ 64) sub ∙ rw (pow-add 2 (k - 64) 64, ← mul_assoc m (2 ^ (k - 64)) (2 ^ 64)) (mul-mod_left (m * 2 ^ (k - 64)) (2 ^ 64)))
 
 -- ---- by the sign, the exponent x and the fraction t
 module _ (s : Bool) (t : ℕ) (t_lt : t < 2 ^ 52) where

@@ -41,11 +41,10 @@ const EXPONENT_OF_INFINITY: u64 = 2047;
 
 // A whole number with a sign, where that is an integer of 64 bits.
 fn with_sign(negative: bool, whole: u64) -> Option<i64>
-    requires { 0 < whole }
     ensures { found result ≡ definition.integer_where true (definition.with_sign negative whole) }
 {
     if negative {
-        i64::try_from(whole - 1).ok().map(|n| -1 - n)
+        0i64.checked_sub_unsigned(whole)
     } else {
         i64::try_from(whole).ok()
     }
@@ -97,18 +96,6 @@ fn bits_of(n: i64) -> u64
     }
 }
 
-// Of a float of 2^64 or more, whatever its sign, by its bits: the lowest 64 bits of its whole number.
-fn low_bits(bits: u64) -> u64
-    requires { 1087 ≤ bits % 2 ^ 63 / 2 ^ 52 }
-    ensures { result ≡ (2 ^ 52 + bits % 2 ^ 52) * 2 ^ (bits % 2 ^ 63 / 2 ^ 52 - 1075) % 2 ^ 64 }
-{
-    let places = bits % SIGN / LEADING - EXPONENT_OF_LAST;
-    if places < 64 {
-        return (LEADING + bits % LEADING) << places;
-    }
-    0
-}
-
 // The remainder by 2^64, by the float's bits: for `%` Rattle's own compiler calls the C library's fmod, at a version that not every
 // machine has. Of the low 64 bits at most 53 are not 0, so their conversion is exact in every rounding mode.
 fn remainder(x: f64) -> f64
@@ -125,7 +112,8 @@ fn remainder(x: f64) -> f64
     if exponent == EXPONENT_OF_INFINITY {
         return f64::NAN;
     }
-    let r = std::num::nearest_u64_to_f64(low_bits(bits));
+    let places = (exponent - EXPONENT_OF_LAST) as u32;
+    let r = std::num::nearest_u64_to_f64((LEADING + bits % LEADING).unbounded_shl(places));
     if bits >= SIGN { -r } else { r }
 }
 
