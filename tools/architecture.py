@@ -66,7 +66,7 @@ BOXES = [
     ("proved", 376, 60, 180, 58, "agreement", ["calls made in turn, by", "measure, write and read"]),
     ("proved", 696, 60, 110, 58, "line", ["the line printed"]),
     ("proved", 846, 60, 114, 58, "packsize", ["the program"]),
-    ("leaf", 186, 542, 118, 104, "align", ["the state, padding;", "for format, measure,", "range, plan, fetch,", "write, read"]),
+    ("leaf", 186, 542, 118, 104, "align, items", ["the state, padding;", "sizes as types; for", "format, measure,", "range, plan, fetch"]),
     ("leaf", 318, 542, 118, 104, "values, fields", ["the value list, and", "runs of them; for", "numbers, word, plan,", "write, tray, read"]),
     ("leaf", 450, 542, 118, 104, "numbers", ["a value as integer", "or as number;", "for word"]),
     ("leaf", 582, 542, 118, 104, "single", ["f64 to f32, and", "back; for word,", "numbers, decode"]),
