@@ -1,17 +1,13 @@
 // Reads a format from standard input, up to a line feed or the end, and prints its size or its refusal.
 #![tactic(auto)]
 
-ghost use Rattle.std.specs.Prelude.{◌≤◌, length};
-
 use line::{answer_to, is_settled};
 use std::io;
 use std::io::Read;
 
-// Reads until what follows can't change the answer, the input ends or a read fails; how many bytes were read. `Read` asks for a buffer and
-// says how much of it is filled.
-fn read_line(reader: &mut impl Read, input: &mut [u8]) -> usize
-    ensures { result ≤ length input.new }
-{
+// Reads until what follows can't change the answer, the input ends or a read fails; what was read. A read takes what there is, so how far
+// the buffer is filled is counted, and the loop has no range to go over.
+fn read_line<'b>(reader: &mut impl Read, input: &'b mut [u8]) -> &'b [u8] {
     let mut n = 0;
     while !is_settled(&input[..n]) {
         match reader.read(&mut input[n..]) {
@@ -19,12 +15,11 @@ fn read_line(reader: &mut impl Read, input: &mut [u8]) -> usize
             Ok(more) => n += more,
         }
     }
-    n
+    &input[..n]
 }
 
 fn main(rt: HostRuntime) -> io::Result<()> {
     // One byte more than the longest format, so that a full buffer is settled.
     let mut input = [0u8; 4097];
-    let n = read_line(&mut rt.stdin(), &mut input);
-    print!(rt; "{}", answer_to(&input[..n]))
+    print!(rt; "{}", answer_to(read_line(&mut rt.stdin(), &mut input)))
 }
