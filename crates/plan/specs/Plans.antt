@@ -1,5 +1,5 @@
--- What a plan says of an item: what writing does at a state, with the values of the list from a field on.
-use Rattle.std.specs.Prelude.{ℕ, ◌+◌, ◌-◌, ◌^◌, ◌≤◌, ◌≡◌, List, [], ◌∷◌, ◌++◌, map, length, drop, Result, Ok, Err}
+-- What a plan says of an item: what writing does at a place, with the values of the list from there on.
+use Rattle.std.specs.Prelude.{ℕ, ◌+◌, ◌-◌, ◌^◌, ◌<◌, ◌≤◌, ◌≡◌, true, List, [], ◌∷◌, ◌++◌, map, length, drop, Result, Ok, Err, Some}
 use Rattle.definition.specs.Answers.{Checked, refused, accepted}
 use Rattle.definition.specs.Refusals.{refusal_number}
 use Rattle.definition.specs.Bytes.{laid}
@@ -10,78 +10,73 @@ use Rattle.definition.specs.States.{set, further, natural, padding}
 use Rattle.definition.specs.Writing as writing
 use Rattle.definition.specs.Writing.{byte, pads, Output, output, nothing, place, early, write_op}
 use Rattle.definition.specs.declared.State.{State}
-use Rattle.definition.specs.declared.Kind.{Kind}
 use Rattle.definition.specs.declared.Field.{Field}
 use Rattle.definition.specs.declared.Op.{Op}
 use Rattle.definition.specs.declared.Refusal.{Refusal}
-use Rattle.values.specs.Meaning.{meaning}
+use Rattle.values.specs.Meaning.{meaning, FieldRead, is_accepted}
 use Rattle.values.specs.declared.Value.{Value}
 use Rattle.store.specs.Texts.{text_bytes, counted_bytes}
 use Rattle.word.specs.Words.{fill_of}
+use Rattle.plan.specs.Places.{values_of, left_of, list_of, place_of}
 use Rattle.plan.specs.declared.item.Plan.{Plan}
 use Rattle.plan.specs.declared.item.Plan.TheVariants as plans
 use Rattle.plan.specs.declared.place.Place.{Place}
+use Rattle.plan.specs.declared.place.Padded.{Padded}
 use Rattle.plan.specs.declared.text.Text.{Text}
 
--- what the item op gives, written at the state s with the values vs
-abbrev pub wrote : State → List definition.Value → Op → Checked (writing.Place definition.Value × Output)
-wrote s vs op = write_op (place s vs) op
-
--- a field with the values vs before check 9: p zeros, its value's bytes, and the list's next field
-pub record Encoded (l : List ℕ) (s : State) (vs : List definition.Value) (f : Field) (p : ℕ) (bytes : List ℕ) (next : ℕ) : Type 0 where
-  pub padded : padding s (natural f) ≡ accepted p
-  pub state : State
-  pub early_is : early s f ≡ accepted state
-  pub val : definition.Value
-  pub rest : List definition.Value
-  pub first : vs ≡ val ∷ rest
-  pub encoded : encode s.big f val ≡ accepted bytes
-  pub list : values (drop next l) ≡ accepted rest
-
--- a field that was put: p zeros and bytes, which are `size` in all, and the list's next field
-pub record Wrote (l : List ℕ) (s : State) (vs : List definition.Value) (op : Op) (p : ℕ) (bytes : List ℕ) (size next : ℕ) : Type 0 where
-  pub field : Field
-  pub val : definition.Value
-  pub rest : List definition.Value
-  pub is : wrote s vs op ≡ accepted (place (further s size) rest, output (pads p ++ map byte bytes) ((field, val) ∷ []) 1)
-  pub long : p + length bytes ≡ size
-  pub room : s.length + size ≤ 2 ^ 63 - 1
-  pub list : values (drop next l) ≡ accepted rest
+-- what the item op gives, written at a place
+abbrev pub wrote : Place → Op → Checked (writing.Place definition.Value × Output)
+wrote at op = write_op (place_of at) op
 
 -- zeros that were put
-pub record Padded (s : State) (vs : List definition.Value) (op : Op) (n : ℕ) : Type 0 where
-  pub is : wrote s vs op ≡ accepted (place (further s n) vs, output (pads n) [] 1)
-  pub room : s.length + n ≤ 2 ^ 63 - 1
+pub record WroteZeros (at : Place) (op : Op) (n : ℕ) : Type 0 where
+  pub is : wrote at op ≡ accepted (place (further at.state n) (left_of at.reader), output (pads n) [] 1)
+  pub room : at.state.length + n ≤ 2 ^ 63 - 1
+
+-- a field that was put: p zeros and bytes, which are `size` in all, and the list's next field
+pub record Wrote (at : Place) (op : Op) (p : ℕ) (bytes : List ℕ) (size next : ℕ) : Type 0 where
+  pub field : Field
+  pub val : definition.Value
+  pub is : wrote at op ≡ accepted (place (further at.state size) (values_of (drop next (list_of at))), output (pads p ++ map byte bytes) ((field, val) ∷ []) 1)
+  pub long : p + length bytes ≡ size
+  pub room : at.state.length + size ≤ 2 ^ 63 - 1
+  pub known : is_accepted (values (drop next (list_of at))) ≡ true
+  pub behind : at.reader.at < next
+
+-- a text that lies inside the list was put
+pub record WroteText (at : Place) (op : Op) (p : ℕ) (t : Text) (bytes : List ℕ) (size : ℕ) : Type 0 where
+  pub wrote : Wrote at op p bytes size t.next
+  pub within : t.start + t.length ≤ length (list_of at)
 
 -- what the plan of the item op says
-abbrev pub Planned : List ℕ → State → List definition.Value → Op → Plan → Type 0
-Planned l s vs op plans.Skip = wrote s vs op ≡ accepted (place s vs, nothing)
-Planned l s vs op (plans.Set x) = wrote s vs op ≡ accepted (place (set x s) vs, output [] [] 1)
-Planned l s vs op (plans.Zeros n) = Padded s vs op n
-Planned l s vs op (plans.Number p n w next) = Wrote l s vs op p (laid s.big n w (fill_of w)) (p + n) next
-Planned l s vs op (plans.Text p t zeros) = Wrote l s vs op p (text_bytes l t.start t.length zeros) (p + (t.length + zeros)) t.next × (t.start + t.length ≤ length l)
-Planned l s vs op (plans.Counted p n t) = Wrote l s vs op p (counted_bytes s.big l n t.start t.length) (p + (n + t.length)) t.next × (t.start + t.length ≤ length l)
+abbrev pub Planned : Place → Op → Plan → Type 0
+Planned at op plans.Skip = wrote at op ≡ accepted (place_of at, nothing)
+Planned at op (plans.Set x) = wrote at op ≡ accepted (place (set x at.state) (left_of at.reader), output [] [] 1)
+Planned at op (plans.Zeros n) = WroteZeros at op n
+Planned at op (plans.Number p n w next) = Wrote at op p (laid at.state.big n w (fill_of w)) (p + n) next
+Planned at op (plans.Text p t zeros) = WroteText at op p t (text_bytes (list_of at) t.start t.length zeros) (p + (t.length + zeros))
+Planned at op (plans.Counted p n t) = WroteText at op p t (counted_bytes at.state.big (list_of at) n t.start t.length) (p + (n + t.length))
 
-abbrev pub ItemPlan : List ℕ → State → List definition.Value → Op → Result Plan Refusal → Type 0
-ItemPlan l s vs op (Err r) = wrote s vs op ≡ refused (refusal_number r)
-ItemPlan l s vs op (Ok p) = Planned l s vs op p
+abbrev pub ItemPlan : Place → Op → Result Plan Refusal → Type 0
+ItemPlan at op (Err r) = wrote at op ≡ refused (refusal_number r)
+ItemPlan at op (Ok p) = Planned at op p
 
--- the plan of an item at a place, with the values of its list from its field on
-abbrev pub ItemAt : Place → Op → Result Plan Refusal → Type 0
-ItemAt p op r = (vs : List definition.Value) → values (drop p.reader.at p.reader.list.now) ≡ accepted vs → ItemPlan p.reader.list.now p.state vs op r
+-- the plan of an item at a place
+pub record ItemAt (at : Place) (op : Op) (r : Result Plan Refusal) : Type 0 where
+  pub says : ItemPlan at op r
 
--- of a number that takes the value v after p zeros
-abbrev pub NumberPlan : State → ℕ → Kind → ℕ → Value → ℕ → Result Plan Refusal → Type 0
-NumberPlan s p k n v next r = (l : List ℕ) (rest : List definition.Value) → padding s n ≡ accepted p → values (drop next l) ≡ accepted rest → ItemPlan l s (meaning l v ∷ rest) (Op.Put (Field.Number k n)) r
+-- the option of the field f, behind its zeros, that passed what it checks before its value
+pub record Begun (x : Padded) (f : Field) : Type 0 where
+  pub padded : padding x.place.state (natural f) ≡ accepted x.pads
+  pub state : State
+  pub early_is : early x.place.state f ≡ accepted state
 
--- of a text of the list after p zeros that passed all checks but 9: what `bytes` makes of the list
-abbrev pub BytesPlan : (List ℕ → List ℕ) → State → ℕ → Text → Result Plan Refusal → Type 0
-BytesPlan bytes s p t r = (l : List ℕ) (vs : List definition.Value) (f : Field) → Encoded l s vs f p (bytes l) t.next → t.start + t.length ≤ length l → ItemPlan l s vs (Op.Put f) r
+-- it passed all checks but 9: the list's field is the value v, which is written as bytes, and the next field stands at next
+pub record Encoded (x : Padded) (f : Field) (v : Value) (next : ℕ) (bytes : List ℕ) : Type 0 where
+  pub begun : Begun x f
+  pub found : FieldRead (list_of x.place) x.place.reader.at (Some (v, next))
+  pub is : encode x.place.state.big f (meaning (list_of x.place) v) ≡ accepted bytes
 
--- zeros behind it
-abbrev pub TextPlan : State → ℕ → Text → ℕ → Result Plan Refusal → Type 0
-TextPlan s p t zeros r = BytesPlan (λ l. text_bytes l t.start t.length zeros) s p t r
-
--- its length before it, in n bytes
-abbrev pub CountedPlan : State → ℕ → ℕ → Text → Result Plan Refusal → Type 0
-CountedPlan s p n t r = BytesPlan (λ l. counted_bytes s.big l n t.start t.length) s p t r
+-- of a text that passed all checks but 9, with zeros behind it
+abbrev pub TextPlan : Padded → Text → ℕ → Result Plan Refusal → Type 0
+TextPlan x t zeros r = (f : Field) → Encoded x f (Value.Text t.start t.length) t.next (text_bytes (list_of x.place) t.start t.length zeros) → ItemAt x.place (Op.Put f) r

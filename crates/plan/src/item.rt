@@ -1,21 +1,18 @@
 // What writing does for an item: one plan serves the pass that checks and the pass that puts bytes.
-ghost use Rattle.std.specs.Prelude.{◌≡◌, ◌+◌, ◌-◌, ◌^◌, ◌<◌, ◌≤◌, T, ltb};
+ghost use Rattle.std.specs.Prelude.{◌≡◌, ◌+◌, ◌-◌, ◌^◌, ◌≤◌, ltb};
 ghost use Rattle.definition.specs.Answers.{accepted};
 ghost use Rattle.definition.specs.Refusals.{answer_of};
 ghost use Rattle.definition.specs.States as states;
 ghost use Rattle.definition.specs.declared.Field.TheVariants as fields;
 ghost use Rattle.definition.specs.declared.Op.TheVariants as ops;
-ghost use Rattle.laws.proofs.Fields.{valid_field};
-ghost use Rattle.laws.proofs.Numbers.{valid_size};
-ghost use Rattle.laws.proofs.Ops.{valid_op};
-ghost use Rattle.values.specs.Meaning.{Proper};
-ghost use Rattle.plan.specs.Plans.{ItemAt, NumberPlan, TextPlan, CountedPlan};
+ghost use Rattle.plan.specs.Plans.{ItemAt, TextPlan};
 
-use crate::place::Place;
-use crate::text::{Text, has_zero, text_at};
-use align::{fits, fits_few, natural, padding};
-use definition::{Field, Kind, Op, Refusal, Setting};
-use values::Value;
+use crate::place::{Padded, Place};
+use crate::text::{Text, has_zero};
+use align::{NaturalAlignment, fits, fits_few, padding};
+use definition::{Field, Op, Refusal, Setting};
+use items::{Number, Size, ValidField, ValidOp};
+use values::proper::ProperValue;
 use word::word_of;
 
 // What an item does.
@@ -48,11 +45,103 @@ pub enum Plan {
     },
 }
 
+// Whether a length in so many bytes can be that of a text.
+fn countable(size: Size, text: Text) -> bool
+    ensures { result ≡ ltb text.length (256 ^ size.bytes) }
+{
+    if size.bytes == 1 {
+        return text.length <= 255;
+    }
+    true
+}
+
+impl Padded<'_> {
+    // A number: 11, 12, 13, 9.
+    fn number(self, number: Number) -> Result<Plan, Refusal>
+        requires padded { states.padding self.place.state number.size ≡ accepted self.pads }
+        ensures { ItemAt self.entry.place (ops.Put (fields.Number number.kind number.size)) result }
+    {
+        let (value, next) = self.place.reader.field().ok_or(Refusal::NoValueLeft)?;
+        let word = word_of(number, ProperValue { value })?;
+        if !fits_few(self.place.state, self.pads + number.size) {
+            return Err(Refusal::LengthTooLarge);
+        }
+        Ok(Plan::Number {
+            pads: self.pads,
+            size: number.size,
+            word,
+            next,
+        })
+    }
+
+    // A text that passed all checks but 9, with zeros behind it.
+    fn put_text(self, text: Text, zeros: u64) -> Result<Plan, Refusal>
+        requires { text.length + zeros ≤ 2 ^ 63 - 1 }
+        ensures { TextPlan self.entry text zeros result }
+    {
+        if !fits(self.place.state, self.pads + (text.length as u64 + zeros)) {
+            return Err(Refusal::LengthTooLarge);
+        }
+        Ok(Plan::Text {
+            pads: self.pads,
+            text,
+            zeros,
+        })
+    }
+
+    // c: 9, 11, 12, 15, 9.
+    fn chars(self, n: u64) -> Result<Plan, Refusal>
+        requires padded { states.padding self.place.state (states.natural (fields.Chars n)) ≡ accepted self.pads }
+        ensures { ItemAt self.entry.place (ops.Put (fields.Chars n)) result }
+    {
+        if !fits(self.place.state, n) {
+            return Err(Refusal::LengthTooLarge);
+        }
+        let text = Text::at(self.place.reader)?;
+        let length = text.length as u64;
+        if n < length {
+            return Err(Refusal::TextDoesNotFit);
+        }
+        self.put_text(text, n - length)
+    }
+
+    // z: 11, 12, 14, 9.
+    fn zero_ended(self) -> Result<Plan, Refusal>
+        requires padded { states.padding self.place.state (states.natural fields.ZeroEnded) ≡ accepted self.pads }
+        ensures { ItemAt self.entry.place (ops.Put fields.ZeroEnded) result }
+    {
+        let text = Text::at(self.place.reader)?;
+        if has_zero(text.bytes(self.place.reader.list)) {
+            return Err(Refusal::ZeroInText);
+        }
+        self.put_text(text, 1)
+    }
+
+    // s: 11, 12, 15, 9.
+    fn counted(self, size: Size) -> Result<Plan, Refusal>
+        requires padded { states.padding self.place.state size.bytes ≡ accepted self.pads }
+        ensures { ItemAt self.entry.place (ops.Put (fields.Counted size.bytes)) result }
+    {
+        let text = Text::at(self.place.reader)?;
+        if !countable(size, text) {
+            return Err(Refusal::TextDoesNotFit);
+        }
+        let pads = self.pads;
+        if !fits_few(self.place.state, pads + (size.bytes + text.length as u64)) {
+            return Err(Refusal::LengthTooLarge);
+        }
+        Ok(Plan::Counted {
+            pads,
+            size: size.bytes,
+            text,
+        })
+    }
+}
+
 // x and X: 6, 9.
-fn pad(place: Place, natural: u64, zeros: u64) -> Result<Plan, Refusal>
-    requires positive { 1 ≤ natural }
-    requires one_zero { zeros ≤ 1 }
-    ensures { ItemAt place.entry (ops.Pad natural zeros) result }
+fn pad(place: Place, natural: NaturalAlignment, zeros: u64) -> Result<Plan, Refusal>
+    requires { zeros ≤ 1 }
+    ensures { ItemAt place.entry (ops.Pad natural.bytes zeros) result }
 {
     let p = padding(place.state, natural)?;
     if !fits(place.state, p + zeros) {
@@ -61,159 +150,48 @@ fn pad(place: Place, natural: u64, zeros: u64) -> Result<Plan, Refusal>
     Ok(Plan::Zeros(p + zeros))
 }
 
-// A number that takes the value v, after p zeros: 12, 13, 9.
-fn put_number(
-    place: Place,
-    p: u64,
-    kind: Kind,
-    size: u64,
-    v: Value,
-    next: usize,
-) -> Result<Plan, Refusal>
-    requires small_fill { p < 16 }
-    requires proper { Proper v }
-    requires valid_size { T (valid_size kind size) }
-    ensures { NumberPlan place.entry.state p kind size v next result }
-{
-    let word = word_of(kind, size, v)?;
-    if !fits_few(place.state, p + size) {
-        return Err(Refusal::LengthTooLarge);
-    }
-    Ok(Plan::Number {
-        pads: p,
-        size,
-        word,
-        next,
-    })
-}
-
-// A number after p zeros: 11, 12, 13, 9.
-fn number(place: Place, p: u64, kind: Kind, size: u64) -> Result<Plan, Refusal>
-    requires padded { states.padding place.state size ≡ accepted p }
-    requires valid_size { T (valid_size kind size) }
-    ensures { ItemAt place.entry (ops.Put (fields.Number kind size)) result }
-{
-    let (v, next) = place.reader.field().ok_or(Refusal::NoValueLeft)?;
-    put_number(place, p, kind, size, v, next)
-}
-
-// A text after p zeros that passed all checks but 9.
-fn put_text(place: Place, p: u64, text: Text, zeros: u64) -> Result<Plan, Refusal>
-    requires small_fill { p < 16 }
-    requires length_fits { text.length + zeros ≤ 2 ^ 63 - 1 }
-    ensures { TextPlan place.entry.state p text zeros result }
-{
-    if !fits(place.state, p + (text.length as u64 + zeros)) {
-        return Err(Refusal::LengthTooLarge);
-    }
-    Ok(Plan::Text {
-        pads: p,
-        text,
-        zeros,
-    })
-}
-
-// c after p zeros: 9, 11, 12, 15, 9.
-fn chars(place: Place, p: u64, n: u64) -> Result<Plan, Refusal>
-    requires padded { states.padding place.state (states.natural (fields.Chars n)) ≡ accepted p }
-    ensures { ItemAt place.entry (ops.Put (fields.Chars n)) result }
-{
-    if !fits(place.state, n) {
-        return Err(Refusal::LengthTooLarge);
-    }
-    let text = text_at(place.reader)?;
-    let length = text.length as u64;
-    if n < length {
-        return Err(Refusal::TextDoesNotFit);
-    }
-    put_text(place, p, text, n - length)
-}
-
-// z after p zeros: 11, 12, 14, 9.
-fn zero_ended(place: Place, p: u64) -> Result<Plan, Refusal>
-    requires padded { states.padding place.state (states.natural fields.ZeroEnded) ≡ accepted p }
-    ensures { ItemAt place.entry (ops.Put fields.ZeroEnded) result }
-{
-    let text = text_at(place.reader)?;
-    if has_zero(text.bytes(place.reader.list)) {
-        return Err(Refusal::ZeroInText);
-    }
-    put_text(place, p, text, 1)
-}
-
-// Whether a length in so many bytes can be n.
-fn countable(size: u64, n: usize) -> bool
-    requires valid_field { T (valid_field (fields.Counted size)) }
-    requires short { n ≤ 65535 }
-    ensures { result ≡ ltb n (256 ^ size) }
-{
-    if size == 1 {
-        return n <= 255;
-    }
-    true
-}
-
-// A text behind its length, after p zeros, that passed all checks but 9.
-fn put_counted(place: Place, p: u64, size: u64, text: Text) -> Result<Plan, Refusal>
-    requires small_fill { p < 16 }
-    requires small_size { size ≤ 16 }
-    requires short { text.length ≤ 65535 }
-    ensures { CountedPlan place.entry.state p size text result }
-{
-    if !fits_few(place.state, p + (size + text.length as u64)) {
-        return Err(Refusal::LengthTooLarge);
-    }
-    Ok(Plan::Counted {
-        pads: p,
-        size,
-        text,
-    })
-}
-
-// s after p zeros: 11, 12, 15, 9.
-fn counted(place: Place, p: u64, size: u64) -> Result<Plan, Refusal>
-    requires padded { states.padding place.state (states.natural (fields.Counted size)) ≡ accepted p }
-    requires valid_field { T (valid_field (fields.Counted size)) }
-    ensures { ItemAt place.entry (ops.Put (fields.Counted size)) result }
-{
-    let text = text_at(place.reader)?;
-    if !countable(size, text.length) {
-        return Err(Refusal::TextDoesNotFit);
-    }
-    put_counted(place, p, size, text)
-}
-
 // The zeros before a field, or 6.
-fn padding_of(place: Place, f: Field) -> Result<u64, Refusal>
-    requires valid_field { T (valid_field f) }
-    ensures { answer_of result ≡ states.padding place.entry.state (states.natural f) }
+fn padding_of(place: Place, f: ValidField) -> Result<u64, Refusal>
+    ensures { answer_of result ≡ states.padding place.entry.state (states.natural f.field) }
 {
-    padding(place.state, natural(f))
+    padding(place.state, f.natural())
 }
 
 // A field: 6, then by its option. Each is padded by itself, so that the compiler knows in each case which natural alignment it
-// has, and goes on from there to that option's checks.
-fn field(place: Place, f: Field) -> Result<Plan, Refusal>
-    requires valid_field { T (valid_field f) }
-    ensures { ItemAt place.entry (ops.Put f) result }
+// has, and goes on from there to that option's checks: one padding before the match makes writing cost a tenth more.
+#[tactic(auto, using(crate::proofs::Plans::padding_lt, crate::proofs::Plans::unaligned, crate::proofs::Plans::number_valid, crate::proofs::Plans::size_within))]
+fn field(place: Place, f: ValidField) -> Result<Plan, Refusal>
+    ensures { ItemAt place.entry (ops.Put f.field) result }
 {
-    match f {
-        Field::Number(kind, size) => number(place, padding_of(place, f)?, kind, size),
-        Field::Chars(n) => chars(place, padding_of(place, f)?, n),
-        Field::ZeroEnded => zero_ended(place, padding_of(place, f)?),
-        Field::Counted(size) => counted(place, padding_of(place, f)?, size),
+    match f.field {
+        Field::Number(kind, size) => {
+            let pads = padding_of(place, f)?;
+            Padded { place, pads }.number(Number { kind, size })
+        }
+        Field::Chars(n) => {
+            let pads = padding_of(place, f)?;
+            Padded { place, pads }.chars(n)
+        }
+        Field::ZeroEnded => {
+            let pads = padding_of(place, f)?;
+            Padded { place, pads }.zero_ended()
+        }
+        Field::Counted(bytes) => {
+            let pads = padding_of(place, f)?;
+            Padded { place, pads }.counted(Size { bytes })
+        }
     }
 }
 
-// The plan of a checked item at a place.
-pub fn plan_of(place: Place, op: Op) -> Result<Plan, Refusal>
-    requires valid_op { T (valid_op op) }
-    ensures { ItemAt place.entry op result }
+// The plan of an item at a place.
+#[tactic(auto, using(crate::proofs::Plans::skips, crate::proofs::Plans::sets_state))]
+pub fn plan_of(place: Place, op: ValidOp) -> Result<Plan, Refusal>
+    ensures { ItemAt place.entry op.op result }
 {
-    match op {
+    match op.op {
         Op::Blank => Ok(Plan::Skip),
         Op::Set(x) => Ok(Plan::Set(x)),
-        Op::Pad(natural, zeros) => pad(place, natural, zeros),
-        Op::Put(f) => field(place, f),
+        Op::Pad(bytes, zeros) => pad(place, NaturalAlignment { bytes }, zeros),
+        Op::Put(f) => field(place, ValidField { field: f }),
     }
 }

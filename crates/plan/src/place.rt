@@ -1,4 +1,5 @@
-// Where writing stands before an item.
+// Where writing stands before an item, and before a field's value.
+ghost use Rattle.std.specs.Prelude.{◌<◌};
 ghost use Rattle.laws.proofs.Calls.{Sound};
 
 use definition::State;
@@ -10,4 +11,12 @@ pub struct Place<'a> {
     pub reader: Reader<'a>,
     pub state: State,
     ghost sound: { Sound state },
+}
+
+// A place, and how many zeros go before the value that is put there.
+#[derive(Clone, Copy)]
+pub struct Padded<'a> {
+    pub place: Place<'a>,
+    pub pads: u64,
+    ghost small: { pads < 16 },
 }

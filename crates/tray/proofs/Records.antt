@@ -26,8 +26,9 @@ use Rattle.laws.proofs.ReadBack.{length_written}
 use Rattle.values.specs.Meaning.{is_accepted}
 use Rattle.values.proofs.Lists.{refused_list}
 use Rattle.emit.proofs.Pasting.{paste_whole}
-use Rattle.write_pass.specs.Walks.{values_of, summed, FitsAt, put_at}
-use Rattle.write_pass.proofs.Stepping.{list_known}
+use Rattle.plan.specs.Places.{values_of}
+use Rattle.plan.proofs.Places.{list_known}
+use Rattle.write_pass.specs.Walks.{summed, FitsAt, put_at}
 use Rattle.tray.specs.Walks.{bytes_from, RecordFits}
 
 -- ---- of a state s, a format f and a list l

@@ -15,8 +15,10 @@ use align::sum;
 use definition::{Continued, Refusal, State};
 use front::settings;
 use options::{OptionTable, table};
+use plan::place::Place;
 use runs::{is_run, list_at};
 use values::is_list;
+use values::reader::Reader;
 use write_pass::pass;
 
 // Why a tray is refused, and the place of the record that is: its list's place from 1, or 0 of what no list is refused for.
@@ -66,7 +68,11 @@ impl Packing<'_> {
         if !is_list(list) {
             return Err(Refusal::Malformed);
         }
-        pass(self.table, self.format, list, self.state, out, false)
+        let place = Place {
+            reader: Reader { list, at: 0 },
+            state: self.state,
+        };
+        pass(self.table, self.format, place, out, false)
     }
 
     // Puts a record that is accepted at the buffer's front, and says its length.
@@ -75,16 +81,22 @@ impl Packing<'_> {
         ensures length { result ≡ length (bytes_from self.entry.state self.entry.format.now list.now) }
         ensures bytes { out.new ≡ bytes_from self.entry.state self.entry.format.now list.now ++ drop result out.old }
     {
-        let record = pass(self.table, self.format, list, self.state, out, true).unwrap();
+        let place = Place {
+            reader: Reader { list, at: 0 },
+            state: self.state,
+        };
+        let record = pass(self.table, self.format, place, out, true).unwrap();
         record.written as usize
     }
 
     // Every check, and the tray's length. After a refusal the walk goes on over the lengths alone, since 23 comes before it.
+    // This walk may refuse and adds up, the second can't refuse and puts: one function of both would ask in each step which it is.
     fn check_tray(self, run: &[u8], out: &mut [u8]) -> Result<u64, TrayRefusal>
         ensures tray { Told (tray_from self.entry.state self.entry.format.now run.now) result }
         ensures bytes { out.new ≡ out.old }
     {
         let mut left = run;
+        // It counts the records, and is in the answer: no index.
         let mut place = 1;
         let mut total = 0;
         while let Some((list, rest)) = list_at(left)? {

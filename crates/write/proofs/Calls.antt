@@ -22,8 +22,9 @@ use Rattle.laws.proofs.Calls.{Sound, pack_run, length_record, into_fits}
 use Rattle.laws.proofs.Cutting.{plain_is}
 use Rattle.values.specs.Meaning.{is_accepted}
 use Rattle.values.proofs.Lists.{refused_list}
-use Rattle.write_pass.specs.Walks.{values_of, summed, put_at}
-use Rattle.write_pass.proofs.Stepping.{list_known}
+use Rattle.plan.specs.Places.{values_of}
+use Rattle.plan.proofs.Places.{list_known}
+use Rattle.write_pass.specs.Walks.{summed, put_at}
 use Rattle.emit.proofs.Pasting.{paste_whole}
 
 -- what the call makes of a writing

@@ -8,7 +8,9 @@ ghost use Rattle.definition.specs.Refusals.{answer_of};
 use align::{is_sound, start};
 use definition::{Continued, Refusal, State};
 use options::table;
+use plan::place::Place;
 use values::is_list;
+use values::reader::Reader;
 use write_pass::pass;
 
 // Continued writing: the record stands at the buffer's front, and no other byte has changed; or a refusal, and none has.
@@ -27,11 +29,15 @@ pub fn pack_continued(
         return Err(Refusal::Malformed);
     }
     let table = table();
-    let total = pass(&table, format, list, state, out, false)?;
+    let place = Place {
+        reader: Reader { list, at: 0 },
+        state,
+    };
+    let total = pass(&table, format, place, out, false)?;
     if (out.len() as u64) < total.written {
         return Err(Refusal::ResultTooLong);
     }
-    pass(&table, format, list, state, out, true)
+    pass(&table, format, place, out, true)
 }
 
 // Plain writing: the length of the record.

@@ -8,7 +8,7 @@ use Rattle.write_pass.proofs.Walking.{Passing}
 use Rattle.write_pass.proofs.pass.Given as goal
 
 abbrev pub invariant-loop-item : goal.invariant-loop-item
-invariant-loop-item l = Passing (table_at l.table.entries) l.format l.list l.initial.p.state l.put l.initial.out l.c.at l.p l.out × (length l.out ≡ length l.initial.out)
+invariant-loop-item l = Passing (table_at l.table.entries) l.format l.place l.put l.initial.out l.c.at l.p.0 l.p.1.0 l.items l.out × (length l.out ≡ length l.initial.out)
 
 abbrev pub decreases-loop-item : goal.decreases-loop-item
 decreases-loop-item l = length l.format - l.c.at

@@ -4,4 +4,4 @@ use Rattle.plan.proofs.item.countable.Goals as goal
 
 pub returns : goal.returns
 returns c =
-    count_more c.args.size c.args.n c.requires.valid_field c.requires.short c.if-size-eq1.false
+    count_more c.args.size.bytes c.args.text.length c.args.size.least c.args.text.short c.if-size-eq1.false
