@@ -57,7 +57,7 @@ fn bound_pad(s: State, n: u64) -> Result<State, Refusal>
     Ok(s)
 }
 
-// The sum after an item.
+// The sum after an item. The bound checks alignments and fills nothing up, so it needs none of the facts that an item carries.
 #[tactic(auto, unfolding(definition::specs::Bound::bound_op))]
 fn bound_op(s: State, item: ValidOp, data_length: u64) -> Result<State, Refusal>
     ensures { answer_of result ≡ bounds.bound_op data_length s item.op }

@@ -35,7 +35,7 @@ const PAIR: usize = 4;
 const MAX_TEXT: u64 = 65535;
 
 // The bytes of the field of a text by the first pair, and the other pairs: the text has at most so many bytes, and the field some
-// more beside it.
+// more beside it. These are a bare number with a bound, since the zero of z is the size of no integer.
 fn text_extents(pairs: &[u8], beside: u64, most: u64) -> Result<(Range, &[u8]), Refusal>
     requires { beside ≤ 16 }
     ensures { (holds : ℕ → Bool) → ((m : ℕ) → m < 65536 → holds m ≡ leb m most) → answer_by left_of result ≡ text_extents holds beside pairs.now }
@@ -110,12 +110,14 @@ impl<'a> Place<'a> {
         Ok(Range { least, greatest })
     }
 
-    // Some zeros and bytes on, with the pairs that are then left.
+    // Some zeros and bytes on, with the pairs that are then left. That both lengths stay in order is asked for as it is: a type that
+    // holds it would carry the place a second time, beside the zeros.
     #[tactic(auto, using(measure::proofs::Sums::longer_capped))]
     fn onward(self, zeros: Range, bytes: Range, pairs: &'a [u8]) -> Result<Place<'a>, Refusal>
         requires { self.least + (zeros.least + bytes.least) ≤ self.greatest.length + (zeros.greatest + bytes.greatest) }
         ensures { answer_by places_of result ≡ ranges.onward (places_of self.entry) zeros (bytes, pairs.now) }
     {
+        // Counted up to the greatest sum that 64 bits hold, which is too long in any case.
         let greatest = longer(self.greatest, zeros.greatest.saturating_add(bytes.greatest))?;
         Ok(Place {
             greatest,
