@@ -82,11 +82,11 @@ impl Place {
         }
     }
 
-    // Behind the last item of a format, by the table that is lent.
-    fn last(table: &OptionTable, format: &[u8]) -> Result<Place, Refusal>
-        ensures { answer_by state_of result ≡ measure_from (table_at table.now.entries) states.start format.now }
+    // Behind the items of a format, by the table that is lent.
+    fn measure_from(table: &OptionTable, format: &[u8], from: Place) -> Result<Place, Refusal>
+        ensures { answer_by state_of result ≡ measure_from (table_at table.now.entries) from.state format.now }
     {
-        try_fold(table, format, Place::first(), Place::step)
+        try_fold(table, format, from, Place::step)
     }
 }
 
@@ -97,5 +97,6 @@ pub fn string_packsize(format: &[u8]) -> Result<u64, Refusal>
 {
     // Copied once a call: each use of a constant copies it anew.
     let options = table();
-    Ok(Place::last(&options, format)?.state.length)
+    let end = Place::measure_from(&options, format, Place::first())?;
+    Ok(end.state.length)
 }

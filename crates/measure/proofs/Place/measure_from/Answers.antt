@@ -3,7 +3,7 @@ use Rattle.std.proofs.Common.{rules}
 use Rattle.definition.specs.Measuring.{measure_op}
 use Rattle.format.proofs.Folding.{folded}
 use Rattle.measure.specs.Places.{state_of}
-use Rattle.measure.proofs.Place.last.Goals as goal
+use Rattle.measure.proofs.Place.measure_from.Goals as goal
 
 pub returns : goal.returns
-returns c = rw (← c.first.ensures) (folded _ state_of measure_op (λ s v r k. search rules) _ _ _ c.try_fold.ensures)
+returns c = folded _ state_of measure_op (λ s v r k. search rules) _ _ _ c.try_fold.ensures
