@@ -15,7 +15,6 @@ use Rattle.definition.specs.Reading.{values_of, offset_in, at_offset, skipped, r
 use Rattle.laws.proofs.Ops.{Limited, set_limited, valid_setting}
 use Rattle.laws.proofs.Traces.{map_out, read_value}
 use Rattle.definition.specs.declared.State.{State}
-use Rattle.definition.specs.declared.Offset.{Offset}
 use Rattle.definition.specs.declared.Field.{Field}
 use Rattle.definition.specs.declared.Setting.{Setting}
 use Rattle.definition.specs.declared.Op.{Op}

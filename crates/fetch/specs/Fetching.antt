@@ -1,6 +1,5 @@
 -- What an item does in reading, in the definition's terms.
-use Rattle.std.specs.Prelude.{ℕ, ◌+◌, ◌≡◌, cond, List, [], ◌∷◌, leb, Result, IfOk}
-use Rattle.definition.specs.Answers.{Checked, refused, accepted}
+use Rattle.std.specs.Prelude.{ℕ, ◌+◌, ◌≡◌, List, [], ◌∷◌, Result, IfOk}
 use Rattle.definition.specs.Refusals.{answer_by}
 use Rattle.definition.specs.Values.{Value}
 use Rattle.definition.specs.Writing.{Place, place}

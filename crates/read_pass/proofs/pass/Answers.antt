@@ -8,7 +8,7 @@ use Rattle.std.proofs.lemmas.Result.{err_from_is_err_and}
 use Rattle.definition.specs.Answers.{accepted}
 use Rattle.format.specs.Steps.{next_at}
 use Rattle.options.specs.Packed.{table_at}
-use Rattle.format.proofs.Walking.{valid, ahead}
+use Rattle.format.proofs.Walking.{ahead}
 use Rattle.read_pass.proofs.Passing.{passing_none, passing_end, passing_refusal, passing_refused, passing_set, passing_room, passing_put, passing_kept, passing_more}
 use Rattle.read_pass.proofs.pass.Goals as goal
 use Rattle.read_pass.proofs.pass.Goals.{After-op, then-put, else-put}
