@@ -40,37 +40,18 @@ pub fn number(rest: Rest, big: bool, number: Number) -> Result<Decoded, Refusal>
 {
     let size = number.size;
     let (bytes, _) = rest.split(size)?;
-    match number.kind {
+    let reading = match number.kind {
         Kind::SmallSigned | Kind::LuaInteger | Kind::Signed => {
-            let z = get_signed(bytes, big).ok_or(Refusal::IntegerTooWide)?;
-            Ok(Decoded {
-                reading: Reading::Integer(z),
-                size,
-            })
+            Reading::Integer(get_signed(bytes, big).ok_or(Refusal::IntegerTooWide)?)
         }
         Kind::SmallUnsigned | Kind::LuaUnsigned | Kind::Size | Kind::Unsigned => {
-            let word = get_unsigned(bytes, big).ok_or(Refusal::IntegerTooWide)?;
-            Ok(Decoded {
-                reading: Reading::Integer(to_signed(word)),
-                size,
-            })
+            Reading::Integer(to_signed(get_unsigned(bytes, big).ok_or(Refusal::IntegerTooWide)?))
         }
         // A constant number of bytes: its loop becomes one load.
-        Kind::Single => {
-            let word = get_word(&bytes[0..4], big);
-            Ok(Decoded {
-                reading: Reading::Float(from_single(word as u32)),
-                size,
-            })
-        }
-        Kind::Double => {
-            let word = get_word(&bytes[0..8], big);
-            Ok(Decoded {
-                reading: Reading::Float(word),
-                size,
-            })
-        }
-    }
+        Kind::Single => Reading::Float(from_single(get_word(&bytes[0..4], big) as u32)),
+        Kind::Double => Reading::Float(get_word(&bytes[0..8], big)),
+    };
+    Ok(Decoded { reading, size })
 }
 
 // c: a text of n bytes.

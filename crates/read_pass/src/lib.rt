@@ -71,7 +71,7 @@ pub fn pass(
         c = next;
         // Made anew for each item: the loop carries only the state.
         let place = Place { data, state: s };
-        match place.step(item.op())? {
+        match place.read_op(item.op())? {
             Fetched::Set(t) => s = parts(t),
             Fetched::Read(r, end) => {
                 if put {

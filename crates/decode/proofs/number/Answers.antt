@@ -15,29 +15,29 @@ pub returns-in_err-bytes : goal.returns-in_err-bytes
 returns-in_err-bytes c =
     let p = err_from_is_err_and c.from_residual.result c.from_residual.ensures.1 in rw (p.1, p.2) (number_ended _ _ c.in_err-bytes.ensures)
 
-pub returns-in_err-z-in-SmallSigned : goal.returns-in_err-z-in-SmallSigned
-returns-in_err-z-in-SmallSigned c =
-    let p = err_from_is_err_and c.from_residual-in_err-z-in-SmallSigned.result c.from_residual-in_err-z-in-SmallSigned.ensures.1 in
-    let n = none_of c.in_err-z-in-SmallSigned.ensures.value in
+pub returns-in_err-ok_or-in-SmallSigned : goal.returns-in_err-ok_or-in-SmallSigned
+returns-in_err-ok_or-in-SmallSigned c =
+    let p = err_from_is_err_and c.from_residual-in_err-ok_or-in-SmallSigned.result c.from_residual-in_err-ok_or-in-SmallSigned.ensures.1 in
+    let n = none_of c.in_err-ok_or-in-SmallSigned.ensures.value in
     rw (p.1, p.2, n.1) (alike (signed_kind c.in-SmallSigned.is) (signed_wide _ (split_taken c.args.rest.within c.in_ok-bytes.ensures) (rw n.0 at c.get_signed.ensures)))
 
-pub returns-in_ok-z-in-SmallSigned : goal.returns-in_ok-z-in-SmallSigned
-returns-in_ok-z-in-SmallSigned c =
+pub returns-in_ok-ok_or-in-SmallSigned : goal.returns-in_ok-ok_or-in-SmallSigned
+returns-in_ok-ok_or-in-SmallSigned c =
     alike (signed_kind c.in-SmallSigned.is)
-    (signed_read _ (split_taken c.args.rest.within c.in_ok-bytes.ensures) (search rules) (rw c.in_ok-z-in-SmallSigned.ensures.ok_part at c.get_signed.ensures))
+    (signed_read _ (split_taken c.args.rest.within c.in_ok-bytes.ensures) (search rules) (rw c.in_ok-ok_or-in-SmallSigned.ensures.ok_part at c.get_signed.ensures))
 
-pub returns-in_err-word-in-SmallUnsigned : goal.returns-in_err-word-in-SmallUnsigned
-returns-in_err-word-in-SmallUnsigned c =
-    let p = err_from_is_err_and c.from_residual-in_err-word-in-SmallUnsigned.result c.from_residual-in_err-word-in-SmallUnsigned.ensures.1 in
-    let n = none_of c.in_err-word-in-SmallUnsigned.ensures.value in
+pub returns-in_err-ok_or-in-SmallUnsigned : goal.returns-in_err-ok_or-in-SmallUnsigned
+returns-in_err-ok_or-in-SmallUnsigned c =
+    let p = err_from_is_err_and c.from_residual-in_err-ok_or-in-SmallUnsigned.result c.from_residual-in_err-ok_or-in-SmallUnsigned.ensures.1 in
+    let n = none_of c.in_err-ok_or-in-SmallUnsigned.ensures.value in
     rw (p.1, p.2, n.1) (alike (unsigned_kind c.in-SmallUnsigned.is) (unsigned_wide _ (split_taken c.args.rest.within c.in_ok-bytes.ensures) (rw n.0 at c.get_unsigned.ensures)))
 
-pub returns-in_ok-word-in-SmallUnsigned : goal.returns-in_ok-word-in-SmallUnsigned
-returns-in_ok-word-in-SmallUnsigned c =
+pub returns-in_ok-ok_or-in-SmallUnsigned : goal.returns-in_ok-ok_or-in-SmallUnsigned
+returns-in_ok-ok_or-in-SmallUnsigned c =
     alike (unsigned_kind c.in-SmallUnsigned.is)
-    (unsigned_read _ (split_taken c.args.rest.within c.in_ok-bytes.ensures) c.in_ok-word-in-SmallUnsigned.word
+    (unsigned_read _ (split_taken c.args.rest.within c.in_ok-bytes.ensures) c.in_ok-ok_or-in-SmallUnsigned.field-0
     (to_z-of_z (sfits_of {w = w64} c.to_signed.type_inv) ∙ c.to_signed.ensures)
-    (rw c.in_ok-word-in-SmallUnsigned.ensures.ok_part at c.get_unsigned.ensures))
+    (rw c.in_ok-ok_or-in-SmallUnsigned.ensures.ok_part at c.get_unsigned.ensures))
 
 pub slice_bounds-get_word-end : goal.slice_bounds-get_word-end
 slice_bounds-get_word-end c =
@@ -46,7 +46,7 @@ slice_bounds-get_word-end c =
 pub returns-in-Single : goal.returns-in-Single
 returns-in-Single c =
     let four = eqb→eq c.args.number.size 4 (rw c.in-Single.is at c.args.number.valid) in
-    rw c.in-Single.is (single_read _ (split_taken c.args.rest.within c.in_ok-bytes.ensures) (sym four) c.get_word-word.ensures c.from_single.ensures)
+    rw c.in-Single.is (single_read _ (split_taken c.args.rest.within c.in_ok-bytes.ensures) (sym four) c.get_word.ensures c.from_single.ensures)
 
 pub slice_bounds-get_word-end-in-Double : goal.slice_bounds-get_word-end-in-Double
 slice_bounds-get_word-end-in-Double c =
@@ -55,4 +55,4 @@ slice_bounds-get_word-end-in-Double c =
 pub returns-in-Double : goal.returns-in-Double
 returns-in-Double c =
     let eight = eqb→eq c.args.number.size 8 (rw c.in-Double.is at c.args.number.valid) in
-    rw c.in-Double.is (double_read _ (split_taken c.args.rest.within c.in_ok-bytes.ensures) (sym eight) c.get_word-word-in-Double.ensures)
+    rw c.in-Double.is (double_read _ (split_taken c.args.rest.within c.in_ok-bytes.ensures) (sym eight) c.get_word-in-Double.ensures)
