@@ -22,8 +22,8 @@ impl<'a> Place<'a> {
     ghost use Rattle.definition.specs.declared.Op.TheVariants as ops;
     ghost use Rattle.fetch.specs.Fetching.{Skips, Fetches};
 
-    // Past an alignment, and k bytes: 6, 17. Mostly there is nothing to pass over before them.
-    fn read_pad(self, natural: NaturalAlignment, k: u64) -> Result<Rest<'a>, Refusal>
+    // Behind an alignment and k bytes: 6, 17. Mostly there is nothing to pass over before them.
+    fn pad(self, natural: NaturalAlignment, k: u64) -> Result<Rest<'a>, Refusal>
         ensures { Skips self.entry.data.now self.entry.state natural.bytes k result }
     {
         let p = padding(self.state, natural)?;
@@ -39,40 +39,40 @@ impl<'a> Place<'a> {
 
     // A field: its alignment, then its value. Each kind is aligned by itself, so that the compiler knows of c and z that nothing is
     // passed over.
-    fn read_field(self, f: ValidField) -> Result<Fetched, Refusal>
+    fn field(self, f: ValidField) -> Result<Fetched, Refusal>
         ensures { Fetches self.entry.data.now self.entry.state (ops.Put f.field) result }
     {
         let big = self.state.big;
         match f.field {
             Field::Number(kind, size) => {
-                let rest = self.read_pad(f.natural(), 0)?;
+                let rest = self.pad(f.natural(), 0)?;
                 Ok(after(rest, number(rest, big, Number { kind, size })?))
             }
             Field::Counted(size) => {
-                let rest = self.read_pad(f.natural(), 0)?;
+                let rest = self.pad(f.natural(), 0)?;
                 Ok(after(rest, counted(rest, big, size)?))
             }
             Field::Chars(n) => {
-                let rest = self.read_pad(f.natural(), 0)?;
+                let rest = self.pad(f.natural(), 0)?;
                 Ok(after(rest, text(rest, n)?))
             }
             Field::ZeroEnded => {
-                let rest = self.read_pad(f.natural(), 0)?;
+                let rest = self.pad(f.natural(), 0)?;
                 Ok(after(rest, zero_ended(rest)?))
             }
         }
     }
 
     // What an item does here.
-    pub fn read_op(self, op: ValidOp) -> Result<Fetched, Refusal>
+    pub fn step(self, op: ValidOp) -> Result<Fetched, Refusal>
         ensures { Fetches self.entry.data.now self.entry.state op.op result }
     {
         match op.op {
-            Op::Put(field) => self.read_field(ValidField { field }),
+            Op::Put(field) => self.field(ValidField { field }),
             Op::Blank => Ok(Fetched::Set(self.state)),
             Op::Set(x) => Ok(Fetched::Set(set(self.state, x))),
             Op::Pad(bytes, k) => {
-                let rest = self.read_pad(NaturalAlignment { bytes }, k)?;
+                let rest = self.pad(NaturalAlignment { bytes }, k)?;
                 Ok(Fetched::Set(at_offset(self.state, rest.at)))
             }
         }

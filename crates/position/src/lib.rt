@@ -13,6 +13,7 @@ pub fn offset_of(start: i64, length: usize) -> Result<Offset, Refusal>
     ensures { answer_of result ≡ offset_of start length }
 {
     let n = extent(start);
+    // A usize has at most 64 bits, but std has no `From` for it.
     let len = length as u64;
     if start < 0 {
         if n < len {

@@ -50,8 +50,9 @@ fn put_reading(list: &mut [u8], data: &[u8], r: Reading)
     }
 }
 
-// Reads a format from a place on. With `put`, reading is accepted, and the list has room for the values. The flag stands beside the
-// list: once an `Option<&mut [u8]>` has been lent on to a call, a proof knows nothing more of what it holds.
+// Reads a format from a place on. With `put`, reading is accepted, and the list has room for the values. The list is no part of what
+// steps take and give, and the flag stands beside it: once an `Option<&mut [u8]>` has been lent on to a call, a proof knows nothing more
+// of what it holds.
 pub fn pass(
     table: &OptionTable,
     format: &[u8],
@@ -71,7 +72,7 @@ pub fn pass(
         c = next;
         // Made anew for each item: the loop carries only the state.
         let place = Place { data, state: s };
-        match place.read_op(item.op())? {
+        match place.step(item.op())? {
             Fetched::Set(t) => s = parts(t),
             Fetched::Read(r, end) => {
                 if put {

@@ -1,10 +1,10 @@
--- `read_field` meets its contract: the rest behind the alignment, and there the value, by the option.
+-- `field` meets its contract: the rest behind the alignment, and there the value, by the option.
 use native.Mathlib.Omega.{arith}
 use mathlib.Core.Path.{ap}
 use lib.ListN.{length}
 use Rattle.std.proofs.lemmas.Result.{err_from_is_err_and}
 use Rattle.fetch.proofs.Places.{field_pad_refused, field_refused, field_after}
-use Rattle.fetch.proofs.place.Place.read_field.Goals as goal
+use Rattle.fetch.proofs.place.Place.field.Goals as goal
 
 pub returns-in_err-rest-in-Number : goal.returns-in_err-rest-in-Number
 returns-in_err-rest-in-Number c =

@@ -1,4 +1,4 @@
--- `read_pad` meets its contract: k bytes behind p zeros are behind p + k bytes.
+-- `pad` meets its contract: k bytes behind p zeros are behind p + k bytes.
 use native.Mathlib.Omega.{arith}
 use mathlib.Core.Path.{refl, ◌∙◌}
 use Rattle.std.proofs.Common.{Err}
@@ -6,7 +6,7 @@ use Rattle.std.proofs.lemmas.Result.{err_from_is_err_and}
 use Rattle.definition.specs.Reading.{offset_in}
 use Rattle.decode.proofs.Rests.{past_again_refused, past_again}
 use Rattle.fetch.proofs.Places.{skips}
-use Rattle.fetch.proofs.place.Place.read_pad.Goals as goal
+use Rattle.fetch.proofs.place.Place.pad.Goals as goal
 
 pub returns-then-p-eq0 : goal.returns-then-p-eq0
 returns-then-p-eq0 c = skips (rw c.if-p-eq0.true at c.in_ok-p.ensures) c.args.self.within (omega arith) c.past.result (rw c.offset_in.ensures at c.past.ensures)

@@ -1,7 +1,7 @@
--- `read_op` meets its contract, by what the item does.
+-- `step` meets its contract, by what the item does.
 use Rattle.std.proofs.lemmas.Result.{err_from_is_err_and}
 use Rattle.fetch.proofs.Places.{blank_op, set_op, pad_op_refused, pad_op}
-use Rattle.fetch.proofs.place.Place.read_op.Goals as goal
+use Rattle.fetch.proofs.place.Place.step.Goals as goal
 
 pub returns-in-Blank : goal.returns-in-Blank
 returns-in-Blank c = rw c.in-Blank.is (blank_op _ _ (c.args.self.within, c.args.self.limited))
