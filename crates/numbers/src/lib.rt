@@ -51,6 +51,7 @@ fn with_sign(negative: bool, whole: u64) -> Option<i64>
 }
 
 // The integer that a float equals, by the float's bits.
+#[tactic(auto, using(crate::proofs::Integers::at_zero, crate::proofs::Integers::at_fraction, crate::proofs::Integers::at_large))]
 fn integer_of(bits: u64) -> Option<i64>
     ensures { found result ≡ definition.as_integer (definition.float bits) }
 {
@@ -98,6 +99,7 @@ fn bits_of(n: i64) -> u64
 
 // The remainder by 2^64, by the float's bits: for `%` Rattle's own compiler calls the C library's fmod, at a version that not every
 // machine has. Of the low 64 bits at most 53 are not 0, so their conversion is exact in every rounding mode.
+#[tactic(auto, using(crate::proofs::LowBits::not_a_number, crate::proofs::LowBits::its_own, crate::proofs::LowBits::infinite))]
 fn remainder(x: f64) -> f64
     ensures { result ≡ rem binary64 x (fin false 1 (pos 64)) }
 {

@@ -19,7 +19,7 @@ pub enum Value {
     Float(f64),
     // A NaN, by its bits.
     NotANumber(u64),
-    // Where the text starts in the list, and its length.
+    // Where the text starts in the list, and its length: a place, as document 01 names it, so that a value lends nothing.
     Text(usize, usize),
     Other,
 }
@@ -85,7 +85,8 @@ fn length_suits(tag: u8, n: usize) -> bool
     tag == TAG_TEXT
 }
 
-// Whether the list is fields and nothing else.
+// Whether the list is fields and nothing else. Here and below a loop, and no iterator over fields: both ask for what is left where
+// it stops.
 pub fn is_list(list: &[u8]) -> bool
     ensures { result ≡ is_accepted (values list.now) }
 {

@@ -79,7 +79,8 @@ fn ranged(signed: bool, size: Size, v: ProperValue) -> Result<u64, Refusal>
     in_range(signed, size, z)
 }
 
-// j: an integer, or a float's bits.
+// j: an integer, or a float's bits. It stays apart from J and T, which differ in one arm each: one function for them would take a
+// closure, a clause that it may be called, and a contract of both arms.
 fn lua_integer(v: ProperValue) -> Result<u64, Refusal>
     ensures { (l : List ℕ) (n : ℕ) → n ≤ 8 → Says n (fields.word kinds.LuaInteger n (meaning l v.value)) result }
 {
@@ -99,7 +100,7 @@ fn lua_unsigned(v: ProperValue) -> Result<u64, Refusal>
     }
 }
 
-// T: an integer, or a float modulo 2^64. It stays apart from j: one function for both would take a closure with a contract.
+// T: an integer, or a float modulo 2^64.
 fn size_word(v: ProperValue) -> Result<u64, Refusal>
     ensures { (l : List ℕ) (n : ℕ) → n ≤ 8 → Says n (fields.word kinds.Size n (meaning l v.value)) result }
 {

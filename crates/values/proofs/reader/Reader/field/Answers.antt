@@ -1,13 +1,10 @@
--- `Reader::field` meets its contract: at the end, or by the tag, which the content suits.
+-- `Reader::field` meets its contract: by the tag, which the content suits.
 use Rattle.std.proofs.Common.{◌+◌, ◌-◌, sym, arith, lit≤, to_z-of_z}
 use Rattle.values.specs.Loading.{Loaded}
 use Rattle.values.proofs.Loading.{loaded}
-use Rattle.values.proofs.Reading.{at_end, within, text_field, other_field, eight_there, integer_field, float_field}
+use Rattle.values.proofs.Reading.{within, text_field, other_field, eight_there, integer_field, float_field}
 use Rattle.values.proofs.reader.Reader.field.Goals as goal
 use Rattle.values.proofs.reader.Reader.field.Goals.{After-get_word-b}
-
-pub returns-then-self : goal.returns-then-self
-returns-then-self c = at_end c.args.self.list.now c.args.self.at c.if-self.true
 
 pub slice_bounds-get_word-end : goal.slice_bounds-get_word-end
 slice_bounds-get_word-end c =
