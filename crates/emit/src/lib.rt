@@ -29,7 +29,7 @@ pub fn emit_zeros(put: bool, out: &mut [u8], at: usize, n: usize)
 }
 
 // A number's part of the record: zeros, and the word.
-fn fill_number(out: &mut [u8], zeros: usize, big: bool, word: u64)
+fn put_number(out: &mut [u8], zeros: usize, big: bool, word: u64)
     requires { zeros ≤ length out.old }
     ensures { out.new ≡ replicate zeros 0 ++ laid big (length out.old - zeros) word (fill_of word) }
 {
@@ -54,11 +54,11 @@ pub fn emit_number(
     if !put {
         return;
     }
-    fill_number(&mut out[at..at + (zeros + size)], zeros, big, word);
+    put_number(&mut out[at..at + (zeros + size)], zeros, big, word);
 }
 
 // A text's part of the record: zeros, the text, and zeros.
-fn fill_text(out: &mut [u8], pads: usize, text: &[u8])
+fn put_text(out: &mut [u8], pads: usize, text: &[u8])
     requires { pads + length text.now ≤ length out.old }
     ensures { out.new ≡ replicate pads 0 ++ (text.now ++ replicate (length out.old - pads - length text.now) 0) }
 {
@@ -76,11 +76,11 @@ pub fn emit_text(put: bool, out: &mut [u8], at: usize, pads: usize, text: &[u8],
     if !put {
         return;
     }
-    fill_text(&mut out[at..at + (pads + (text.len() + zeros))], pads, text);
+    put_text(&mut out[at..at + (pads + (text.len() + zeros))], pads, text);
 }
 
 // A counted text's part of the record: zeros, the length, and the text.
-fn fill_counted(out: &mut [u8], pads: usize, big: bool, size: usize, text: &[u8])
+fn put_counted(out: &mut [u8], pads: usize, big: bool, size: usize, text: &[u8])
     requires { length out.old ≡ pads + (size + length text.now) }
     ensures { out.new ≡ replicate pads 0 ++ (laid big size (length text.now) 0 ++ text.now) }
 {
@@ -106,7 +106,7 @@ pub fn emit_counted(
     if !put {
         return;
     }
-    fill_counted(
+    put_counted(
         &mut out[at..at + (pads + (size + text.len()))],
         pads,
         big,
