@@ -27,7 +27,8 @@ fn put_head(out: &mut [u8], tag: u8, n: u64)
     put_number(&mut out[1..HEAD], n);
 }
 
-// A field whose content is eight bytes. The content goes first, so that its stores become one.
+// A field whose content is eight bytes. The content goes first, so that its stores become one. Its callers ask for the
+// eleven bytes too: of an array of eleven behind `&mut` a proof doesn't know the length.
 fn put_eight(out: &mut [u8], tag: u8, word: u64)
     requires { 11 ≤ length out.old }
     ensures { out.new ≡ tag ∷ big 2 8 ++ big 8 word ++ drop 11 out.old }
