@@ -17,7 +17,7 @@ abbrev pub beginning : definition.Value → Checked (List definition.Value) → 
 beginning w c = c >>= λ vs. accepted (w ∷ vs)
 
 -- the values of l from an offset, by the field that stands there
-abbrev continued : List ℕ → Standing → Checked (List definition.Value)
+abbrev pub continued : List ℕ → Standing → Checked (List definition.Value)
 continued l none = accepted []
 continued l (some (refused k)) = refused k
 continued l (some (accepted (w, next))) = beginning w (values (drop next l))

@@ -1,5 +1,4 @@
 pub mod Loading
+pub mod Contents
 pub mod Fields
 pub mod Lists
-pub mod FirstFields
-pub mod Reading

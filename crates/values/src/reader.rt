@@ -17,7 +17,7 @@ pub struct Reader<'a> {
 
 impl<'a> Reader<'a> {
     // The field. None at the list's end.
-    #[tactic(auto, using(crate::proofs::Reading::at_end))]
+    #[tactic(auto, using(crate::proofs::Contents::at_end))]
     pub fn field(self) -> Option<(Value, usize)>
         ensures { FieldRead self.entry.list.now self.entry.at result }
     {

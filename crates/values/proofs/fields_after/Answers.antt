@@ -3,7 +3,7 @@ use Rattle.std.proofs.Common.{◌≡◌, ◌-◌, ◌+◌, suc, length, sym, ap,
 use Rattle.definition.specs.Lists.{fields_after}
 use Rattle.laws.proofs.Lists.{after_first}
 use Rattle.values.specs.Meaning.{size_of}
-use Rattle.values.proofs.FirstFields.{after_short}
+use Rattle.values.proofs.Contents.{after_short}
 use Rattle.values.proofs.fields_after.Goals as goal
 use Rattle.values.proofs.fields_after.Goals.{After-first}
 

@@ -2,7 +2,7 @@
 use Rattle.std.proofs.Common.{◌≡◌, ◌&&◌, sym, ap, ◌∙◌}
 use Rattle.definition.specs.Lists.{values}
 use Rattle.values.specs.Meaning.{is_accepted}
-use Rattle.values.proofs.FirstFields.{accepted_first, at_end}
+use Rattle.values.proofs.Contents.{accepted_first, end_accepted}
 use Rattle.values.proofs.is_list.Goals as goal
 use Rattle.values.proofs.is_list.Goals.{After-length_suits}
 
@@ -18,4 +18,4 @@ pub returns-then-not-length_suits : goal.returns-then-not-length_suits
 returns-then-not-length_suits c = rw c.if-not-length_suits.true at (decided (goal.at.returns-then-not-length_suits c).After-length_suits)
 
 pub returns : goal.returns
-returns c = c.is_empty.ensures ∙ at_end c.loop-tag.rest.now c.in_default.ensures ∙ c.loop-tag.invariant
+returns c = c.is_empty.ensures ∙ end_accepted c.loop-tag.rest.now c.in_default.ensures ∙ c.loop-tag.invariant

@@ -2,7 +2,7 @@
 use Rattle.std.proofs.Common.{◌+◌, ◌-◌, sym, arith, lit≤, to_z-of_z}
 use Rattle.values.specs.Loading.{Loaded}
 use Rattle.values.proofs.Loading.{loaded}
-use Rattle.values.proofs.Reading.{within, text_field, other_field, eight_there, integer_field, float_field}
+use Rattle.values.proofs.Contents.{within, text_field, other_field, eight_there, integer_field, float_field}
 use Rattle.values.proofs.reader.Reader.field.Goals as goal
 use Rattle.values.proofs.reader.Reader.field.Goals.{After-get_word-b}
 
