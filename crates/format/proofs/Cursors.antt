@@ -7,7 +7,8 @@ use mathlib.Core.Option.{Option, none, some}
 use native.Mathlib.Omega.{arith}
 use lib.Dec.{T, eqb}
 use mir.Facts.{and_yes}
-use lib.ListN.{length, get_or, drop, drop_of_length-le}
+use lib.ListN.{length, drop, drop_of_length-le}
+use Rattle.std.specs.List.{HoldsAt}
 use Rattle.definition.specs.Answers.{Checked, refused, accepted, ◌>>=◌}
 use Rattle.definition.specs.Options.{Table, Class, NumeralRule, Nothing, Digits, DigitsBehindX, NextByte, Entry}
 use Rattle.definition.specs.Items.{taken, taken_by, numeral_of, Numeral, Missing}
@@ -18,7 +19,7 @@ use Rattle.options.specs.Packed.{plain_at, entry_at}
 use Rattle.operand.specs.Operands.{operand_by, operand_with, taking, operand_at}
 use Rattle.format.specs.Ops.{op_for, op_at}
 use Rattle.format.specs.Steps.{next_at}
-use Rattle.numeral.proofs.Digits.{drop_at}
+use Rattle.numeral.proofs.Digits.{got}
 use Rattle.operand.proofs.Entries.{cut, at_fixed, at_plain, at_align, at_none, digits_rule, own_size, plain_all}
 
 -- ---- the operation by the operand
@@ -80,10 +81,10 @@ pub next_end : (t : Table) (s : List ℕ) (at : ℕ) → length s ≤ at → acc
 unfolding next_at
 next_end t s at h = rw (drop_of_length-le s h)
 
--- inside the format, with the entry e of the byte there and the operand x of what follows
-pub next_step : (t : Table) → Sizes t → (s : List ℕ) (at : ℕ) → at < length s → (e : ℕ) → entry_at e ≡ t (get_or s at 0) → (x : Checked (ℕ × ℕ)) → x ≡ operand_at t (entry_at e) (drop (at + 1) s)
-    → step_of at e x ≡ next_at t at (drop at s)
-next_step t d s at h e q x p = ap (step_of at e) p ∙ sym (ap (next_at t at) (drop_at s at h) ∙ next_cons t d at (get_or s at 0) (drop (at + 1) s) e q)
+-- inside the format, with the byte b there, its entry e, and the operand x of what follows
+pub next_step : (t : Table) → Sizes t → (s : List ℕ) (at b : ℕ) → (at < length s) × HoldsAt (λ y. b ≡ y) s at → (e : ℕ) → entry_at e ≡ t b → (x : Checked (ℕ × ℕ))
+    → x ≡ operand_at t (entry_at e) (drop (at + 1) s) → step_of at e x ≡ next_at t at (drop at s)
+next_step t d s at b h e q x p = ap (step_of at e) p ∙ sym (ap (next_at t at) (got s at b h) ∙ next_cons t d at b (drop (at + 1) s) e q)
 
 -- what has no operand does the same with any
 pub plain_op : (e n : ℕ) → op_for (plain_at e) 0 ≡ op_for (plain_at e) n

@@ -7,6 +7,7 @@ ghost use Rattle.format.specs.Steps.{next_of, next_at};
 use crate::item::Item;
 use definition::Refusal;
 use operand::operand_at;
+use operand::rest::Rest;
 use options::OptionTable;
 
 // A place in a format.
@@ -26,13 +27,12 @@ impl Cursor {
     pub fn next(self, table: &OptionTable, format: &[u8]) -> Result<Option<(Item, Cursor)>, Refusal>
         ensures { answer_by next_of result ≡ next_at (table_at table.now.entries) self.at (drop self.at format.now) }
     {
-        let at = self.at;
-        if format.len() <= at {
+        let Some(&b) = format.get(self.at) else {
             return Ok(None);
-        }
-        let entry = table.entry(format[at]);
-        let i = at + 1;
-        let x = operand_at(table, format, i, entry)?;
+        };
+        let entry = table.entry(b);
+        let i = self.at + 1;
+        let x = operand_at(table, Rest { format, at: i }, entry)?;
         let item = Item {
             entry,
             operand: x.value,

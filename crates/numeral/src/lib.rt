@@ -1,9 +1,9 @@
 // Numerals: leading zeros, and digits that do not count, are passed by a loop, and the rest is read by recursion.
 #![tactic(auto)]
 
-ghost use Rattle.std.specs.Prelude.{◌≡◌, ◌+◌, ◌-◌, ◌^◌, ◌<◌, true, length, get_or, take, drop};
+ghost use Rattle.std.specs.Prelude.{◌≡◌, ◌+◌, ◌*◌, ◌^◌, ◌<◌, length, take, drop};
 ghost use Rattle.definition.specs.Items.{digits, value, numeral_of};
-ghost use Rattle.numeral.specs.Numerals.{digit_first, digit_on, read_on, reached, read_of, short_of};
+ghost use Rattle.numeral.specs.Numerals.{digit_first, grown, digit_on, read_on, reached, read_of, short_of};
 
 use definition::Refusal;
 
@@ -22,19 +22,11 @@ pub enum Short {
     Long,
 }
 
-// Whether a digit stands at a place.
-fn digit_at(text: &[u8], at: usize) -> bool
-    ensures { result ≡ digit_first (drop at text.now) }
+// Whether a digit stands at the front.
+fn digit_first(text: &[u8]) -> bool
+    ensures { result ≡ digit_first text.now }
 {
-    at < text.len() && text[at].is_ascii_digit()
-}
-
-// The number that the digit at a place stands for.
-fn digit_value(text: &[u8], at: usize) -> u64
-    requires { digit_first (drop at text.now) ≡ true }
-    ensures { result ≡ get_or text.now at 0 - 48 }
-{
-    u64::from(text[at] - b'0')
+    text.first().is_some_and(u8::is_ascii_digit)
 }
 
 // The place after the zeros at the front: the numeral from there has the same value and end.
@@ -45,33 +37,36 @@ fn skip_zeros(text: &[u8]) -> usize
     text.iter().position(|b| *b != b'0').unwrap_or(text.len())
 }
 
-// The place after the digits at a place. The place may lie behind the text, so a part of the text in place of the count would need a case more.
-pub fn skip_digits(text: &[u8], at: usize) -> usize
-    ensures { result ≡ at + length (digits (drop at text.now)) }
+// The place after the digits at the front.
+pub fn skip_digits(text: &[u8]) -> usize
+    ensures { result ≡ length (digits text.now) }
 {
-    let mut i = at;
-    while digit_at(text, i) {
-        i += 1;
+    text.iter()
+        .position(|b| !b.is_ascii_digit())
+        .unwrap_or(text.len())
+}
+
+// The number that the digit d makes, after those that made n.
+fn grown(n: u64, d: u64) -> Result<Option<u64>, Refusal>
+    ensures { result ≡ grown (n * 10 + d) }
+{
+    match n.checked_mul(10).and_then(|tens| tens.checked_add(d)) {
+        Some(m) => Ok(Some(m)),
+        _ => Err(Refusal::NumeralTooLarge),
     }
-    i
 }
 
 // The number that the digit at a place makes, after those that made n; none where no byte is left, or no digit stands there.
 fn digit_on(text: &[u8], at: usize, n: u64, left: usize) -> Result<Option<u64>, Refusal>
     ensures { result ≡ digit_on n (take left (drop at text.now)) }
 {
-    if left == 0 || !digit_at(text, at) {
+    let Some(b) = text.get(at) else {
+        return Ok(None);
+    };
+    if left == 0 || !b.is_ascii_digit() {
         return Ok(None);
     }
-    let d = digit_value(text, at);
-    if u64::MAX / 10 < n {
-        return Err(Refusal::NumeralTooLarge);
-    }
-    let tens = n * 10;
-    if u64::MAX - tens < d {
-        return Err(Refusal::NumeralTooLarge);
-    }
-    Ok(Some(tens + d))
+    grown(n, u64::from(*b - b'0'))
 }
 
 // Reads the digits at a place one a step, as long as bytes are left: n, which the digits before made, becomes the number that they make, and
@@ -96,7 +91,7 @@ fn read_digits(text: &&[u8], at: &mut usize, n: &mut u64, left: usize) -> Option
 pub fn read(text: &[u8]) -> Result<Option<Numeral>, Refusal>
     ensures { result ≡ read_of (numeral_of (digits text.now)) (length (digits text.now)) }
 {
-    if !digit_at(text, 0) {
+    if !digit_first(text) {
         return Ok(None);
     }
     let mut end = skip_zeros(text);
@@ -108,18 +103,19 @@ pub fn read(text: &[u8]) -> Result<Option<Numeral>, Refusal>
     }
 }
 
-// What the numeral at a place shows at once. A digit alone is read with one byte left, and none is too large.
+// What the numeral at a place shows at once.
 pub fn peek(text: &[u8], at: usize) -> Short
     ensures { result ≡ short_of (digits (drop at text.now)) }
 {
-    if !digit_at(text, at) {
+    let Some(b) = text.get(at) else {
+        return Short::Missing;
+    };
+    if !b.is_ascii_digit() {
         return Short::Missing;
     }
-    if digit_at(text, at + 1) {
+    if digit_first(&text[at + 1..]) {
         return Short::Long;
     }
-    let mut i = at;
-    let mut n = 0;
-    let _ = read_digits(&text, &mut i, &mut n, 1);
-    if n == 0 { Short::Long } else { Short::Digit(n) }
+    let d = u64::from(*b - b'0');
+    if d == 0 { Short::Long } else { Short::Digit(d) }
 }

@@ -46,7 +46,7 @@ front t (c ∷ s) b q h e p = let i : b ≡ c = cc in rw (lt-ltb c 128 (omega ar
 
 -- ---- by the packed number of the byte
 module _ (e : ℕ) (s : List ℕ) where
-  pub single : e ≡ 84 → (p : ℕ) → p ≡ 1 + length (digits s) → accepted (4, p) ≡ natural (entry_at e) s
+  pub single : e ≡ 84 → (p : ℕ) → p ≡ length (digits s) → accepted (4, 1 + p) ≡ natural (entry_at e) s
   unfolding entry_at
   single q p r = rw (q, r, one-add)
 

@@ -1,7 +1,7 @@
 // The operand of an option: its size, limit, length or alignment, by its numeral or without one.
 #![tactic(auto)]
 
-ghost use Rattle.std.specs.Prelude.{◌≡◌, ◌≤◌, ◌<◌, length, drop};
+ghost use Rattle.std.specs.Prelude.{◌≡◌, ◌≤◌, ◌<◌, drop};
 ghost use Rattle.definition.specs.Options.{Table};
 ghost use Rattle.definition.specs.Ops.{size_or, limit_or};
 ghost use Rattle.definition.specs.Items.{Missing, Value};
@@ -9,6 +9,9 @@ ghost use Rattle.definition.specs.Refusals.{answer_of, answer_by};
 ghost use Rattle.options.specs.Packed.{entry_at, table_at};
 ghost use Rattle.operand.specs.Operands.{operand_by, operand_at, natural_at, shown_at, pair_of, behind_of, NumeralBehind};
 
+pub mod rest;
+
+use crate::rest::Rest;
 use align::is_power;
 use definition::Refusal;
 use numeral::{Short, peek, read, skip_digits};
@@ -119,7 +122,7 @@ fn behind_x(table: &OptionTable, rest: &[u8]) -> Result<Behind, Refusal>
     if e == SINGLE {
         return Ok(Behind::By(Operand {
             value: 4,
-            taken: skip_digits(rest, 1),
+            taken: 1 + skip_digits(&rest[1..]),
         }));
     }
     if e < FIXED_END {
@@ -165,8 +168,8 @@ fn operand_of(table: &OptionTable, rest: &[u8], e: u8) -> Result<Operand, Refusa
 }
 
 // What the numeral of an option shows at once. An option that takes nothing has none; X, and what is no option, count as long.
-fn shown(format: &[u8], at: usize, e: u8) -> Short
-    ensures { result ≡ shown_at e (drop at format.now) }
+fn shown(rest: Rest<'_>, e: u8) -> Short
+    ensures { result ≡ shown_at e (drop rest.entry.at rest.entry.format.now) }
 {
     if e < PLAIN_END {
         return Short::Missing;
@@ -174,20 +177,19 @@ fn shown(format: &[u8], at: usize, e: u8) -> Short
     if LIMIT_END <= e {
         return Short::Long;
     }
-    peek(format, at)
+    peek(rest.format, rest.at)
 }
 
-// The operand of an option whose byte stands before a place. What needs no numeral, or has one digit of 1 to 9 that it accepts, is seen at once.
-pub fn operand_at(table: &OptionTable, format: &[u8], at: usize, e: u8) -> Result<Operand, Refusal>
-    requires inside { at ≤ length format.now }
-    ensures { answer_by pair_of result ≡ operand_at (table_at table.now.entries) (entry_at e) (drop at format.now) }
+// The operand of an option, by what follows its byte. What needs no numeral, or has one digit of 1 to 9 that it accepts, is seen at once.
+pub fn operand_at(table: &OptionTable, rest: Rest<'_>, e: u8) -> Result<Operand, Refusal>
+    ensures { answer_by pair_of result ≡ operand_at (table_at table.now.entries) (entry_at e) (drop rest.entry.at rest.entry.format.now) }
 {
-    match shown(format, at, e) {
+    match shown(rest, e) {
         Short::Missing if e < COUNTED_END => Ok(Operand {
             value: size_of(e),
             taken: 0,
         }),
         Short::Digit(d) if e < CHARS_END || is_power(d) => Ok(Operand { value: d, taken: 1 }),
-        _ => operand_of(table, &format[at..], e),
+        _ => operand_of(table, rest.bytes(), e),
     }
 }

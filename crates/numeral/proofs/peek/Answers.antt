@@ -1,46 +1,26 @@
--- A digit with no other behind it is the whole numeral, and is read with one byte left; where it makes 0, it is not seen at once.
-use mathlib.Core.Bool.{true, cond}
-use mathlib.Core.Path.{◌≡◌, sym, ◌∙◌}
-use native.Mathlib.Omega.{arith}
-use borrow.Author.Tests.{ne_eqb}
-use lib.Dec.{eqb}
-use lib.ListN.{drop}
-use Rattle.definition.specs.Items.{digits}
-use Rattle.numeral.proofs.Digits.{first_inside, short_none, short_long, short_alone}
-use Rattle.numeral.specs.Numerals.{digit_first, short_of}
-use Rattle.numeral.specs.declared.Short.TheVariants.{Long, Digit}
+-- The byte at the place, and whether a digit follows it, say what is shown.
+use Rattle.std.proofs.Common.{◌+◌, sym, ap, ◌∙◌}
+use Rattle.numeral.specs.Numerals.{digit_first}
+use Rattle.numeral.proofs.Digits.{got, part_rest, short_past, short_none, short_long, short_zero, short_one}
 use Rattle.numeral.proofs.peek.Goals as goal
-use Rattle.numeral.proofs.peek.Goals.{After-read_digits, Else-not-digit_at}
 
--- past the first test a digit stands there
-digit : (c : Else-not-digit_at) → let a = c.before.before.before.args in digit_first (drop a.at a.text.now) ≡ true
-digit c = sym c.before.digit_at.ensures ∙ c.if-not-digit_at.false
+pub returns-in_default : goal.returns-in_default
+returns-in_default c = short_past _ _ c.in_default.ensures.lookup.3
 
--- the digit alone makes the number that is read
-alone : (c : After-read_digits) → let n = c.read_digits.new.n in let a = c.before.before.before.before.before.before.before.before.before.args in
-    cond (eqb n 0) Long (Digit n) ≡ short_of (digits (drop a.at a.text.now))
-alone c =
-    let b = c.before.before.before.before in
-    let a = b.before.before.before.before.before.args in
-    let r = c.read_digits in
-    short_alone a.text.now a.at (digit b.before.before) (sym b.before.digit_at-2.ensures ∙ b.if-digit_at.false) r.result r.new.n r.new.at r.ensures
+pub returns-then-not-is_ascii_digit : goal.returns-then-not-is_ascii_digit
+returns-then-not-is_ascii_digit c = rw (got _ _ _ c.in-Some.ensures.lookup.3) (short_none _ _ (sym c.if-not-is_ascii_digit.ensures.value))
 
-pub returns-then-not-digit_at : goal.returns-then-not-digit_at
-returns-then-not-digit_at c =
-    sym (short_none _ (sym c.digit_at.ensures ∙ c.if-not-digit_at.true))
+pub returns-then-digit_first : goal.returns-then-digit_first
+returns-then-digit_first c =
+    let next = sym (c.if-digit_first.ensures ∙ ap digit_first (part_rest (c.args.at + 1) c.args.text.now)) in
+    rw (got _ _ _ c.in-Some.ensures.lookup.3) (short_long _ _ (sym c.if-not-is_ascii_digit.ensures.value) next)
 
-pub overflow_add-at : goal.overflow_add-at
-overflow_add-at c =
-    let a = c.args in omega (arith, first_inside a.text.now a.at (digit (goal.at.overflow_add-at c).Else-not-digit_at))
+pub returns-then-d-eq0 : goal.returns-then-d-eq0
+returns-then-d-eq0 c =
+    let next = sym (c.if-digit_first.ensures ∙ ap digit_first (part_rest (c.args.at + 1) c.args.text.now)) in
+    rw (got _ _ _ c.in-Some.ensures.lookup.3) (short_zero _ _ (sym c.if-not-is_ascii_digit.ensures.value) next _ c.from-d.ensures c.if-d-eq0.true)
 
-pub returns-then-digit_at : goal.returns-then-digit_at
-returns-then-digit_at c =
-    let a = c.args in short_long a.text.now a.at (digit (goal.at.returns-then-digit_at c).Else-not-digit_at) (sym c.digit_at-2.ensures ∙ c.if-digit_at.true)
-
-pub returns-then-n-eq0 : goal.returns-then-n-eq0
-returns-then-n-eq0 c =
-    rw c.if-n-eq0.true at (alone (goal.at.returns-then-n-eq0 c).After-read_digits)
-
-pub returns-else-n-eq0 : goal.returns-else-n-eq0
-returns-else-n-eq0 c =
-    rw (ne_eqb _ _ c.if-n-eq0.false) at (alone (goal.at.returns-else-n-eq0 c).After-read_digits)
+pub returns-else-d-eq0 : goal.returns-else-d-eq0
+returns-else-d-eq0 c =
+    let next = sym (c.if-digit_first.ensures ∙ ap digit_first (part_rest (c.args.at + 1) c.args.text.now)) in
+    rw (got _ _ _ c.in-Some.ensures.lookup.3) (short_one _ _ (sym c.if-not-is_ascii_digit.ensures.value) next _ c.from-d.ensures c.if-d-eq0.false)

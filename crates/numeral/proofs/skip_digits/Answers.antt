@@ -1,33 +1,14 @@
--- A turn has a digit, so it stays inside the text; past the last one there is none.
-use mathlib.Core.Path.{◌≡◌, refl, sym, ◌∙◌}
-use mathlib.Core.Bool.{true}
-use native.Mathlib.Omega.{arith}
-use lib.ListN.{drop}
-use Rattle.numeral.specs.Numerals.{digit_first}
-use Rattle.numeral.proofs.Digits.{digit_length, digit_none, first_inside}
+-- The digits end at the first byte that is none.
+use Rattle.std.proofs.Common.{◌≡◌, ℕ, ◌∙◌, sym, rules}
+use Rattle.std.proofs.lemmas.Iterator.{IsFirst-from_position, YieldsList-from_slice}
+use mathlib.Core.Bool.{Bool, not, true, false}
+use Rattle.definition.specs.Items.{is_digit}
+use Rattle.numeral.proofs.Digits.{first_or_end, digits_end}
 use Rattle.numeral.proofs.skip_digits.Goals as goal
-use Rattle.numeral.proofs.skip_digits.Goals.{In-loop-i}
-
--- a turn has a digit
-digit : (c : In-loop-i) → digit_first (drop c.before.before.loop-i.i c.before.before.before.before.args.text.now) ≡ true
-digit c = sym c.before.digit_at.ensures ∙ c.loop-i-test.true
-
-pub loop-i-init : goal.loop-i-init
-loop-i-init c =
-    refl
-
-pub overflow_add-i : goal.overflow_add-i
-overflow_add-i c =
-    omega (arith, first_inside c.args.text.now c.loop-i.i (digit (goal.at.overflow_add-i c).In-loop-i))
-
-pub loop-i-smaller : goal.loop-i-smaller
-loop-i-smaller c =
-    omega (arith, first_inside c.args.text.now c.loop-i.i (digit (goal.at.loop-i-smaller c).In-loop-i))
-
-pub loop-i-preserved : goal.loop-i-preserved
-loop-i-preserved c =
-    digit_length _ _ (digit (goal.at.loop-i-preserved c).In-loop-i) ∙ c.loop-i.invariant
 
 pub returns : goal.returns
 returns c =
-    digit_none _ _ (sym c.digit_at.ensures ∙ c.loop-i-test.false) ∙ c.loop-i.invariant
+    let s = c.args.text.now in
+    let other : ℕ → Bool = λ b. not (is_digit b) in
+    let is_first = IsFirst-from_position _ _ c.position.result (λ b. true ≡ other b) (λ b. false ≡ other b) c.position.ensures.ran (YieldsList-from_slice s c.iter.ensures.rest) (λ x q k. search rules) (λ x q k. search rules) in
+    c.unwrap_or.ensures ∙ sym (digits_end s ∙ first_or_end other s c.position.result is_first)

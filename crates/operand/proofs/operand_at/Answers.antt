@@ -10,10 +10,11 @@ use Rattle.operand.proofs.operand_at.Goals as goal
 use Rattle.operand.proofs.operand_at.Goals.{After-shown, then-e-lt-CHARS_END, else-e-lt-CHARS_END}
 
 -- what the answer x of shown says
-said : (c : After-shown) {x : Short} → x ≡ shown_at c.args.e (drop c.args.at c.args.format.now) → Shows (table_at c.args.table.now.entries) c.args.e (drop c.args.at c.args.format.now) x
+said : (c : After-shown) {x : Short} → let a = c.args in let s = drop a.rest.at a.rest.format.now in x ≡ shown_at a.e s → Shows (table_at a.table.now.entries) a.e s x
 said c q =
     let a = c.args in
-    subst (Shows (table_at a.table.now.entries) a.e (drop a.at a.format.now)) (sym q) (shows (table_at a.table.now.entries) a.e (drop a.at a.format.now))
+    let says = Shows (table_at a.table.now.entries) a.e (drop a.rest.at a.rest.format.now) in
+    subst says (sym q) (shows (table_at a.table.now.entries) a.e (drop a.rest.at a.rest.format.now))
 
 pub returns-in-Missing : goal.returns-in-Missing
 returns-in-Missing c = rw c.size_of.ensures (said (goal.at.returns-in-Missing c).After-shown c.in-Missing.ensures c.if-e-lt-COUNTED_END.true)

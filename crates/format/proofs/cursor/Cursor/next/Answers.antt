@@ -1,27 +1,27 @@
 -- The byte has its entry, and what follows it its operand.
-use Rattle.std.proofs.Common.{◌+◌, sym, length-drop, arith}
+use Rattle.std.proofs.Common.{◌+◌, length-drop, sym, arith}
 use Rattle.std.proofs.lemmas.Result.{err_from_is_err_and}
 use Rattle.format.proofs.Cursors.{next_end, next_step}
-use Rattle.operand.proofs.Operands.{operand_count}
 use Rattle.format.proofs.Walking.{valid}
+use Rattle.operand.proofs.Operands.{operand_count}
 use Rattle.format.proofs.cursor.Cursor.next.Goals as goal
 
-pub returns-then-format-at : goal.returns-then-format-at
-returns-then-format-at c = next_end _ _ _ c.if-format-at.true
+pub returns-in_default : goal.returns-in_default
+returns-in_default c = next_end _ _ _ c.in_default.ensures.lookup.3
 
 pub returns-in_err-x : goal.returns-in_err-x
 returns-in_err-x c =
     let p = err_from_is_err_and c.from_residual.result c.from_residual.ensures.1 in
-    rw (p.1, p.2) (next_step _ c.args.table.now.sizes _ _ c.if-format-at.false _ c.entry-entry.ensures _ c.in_err-x.ensures)
+    rw (p.1, p.2) (next_step _ c.args.table.now.sizes _ _ _ c.in-Some.ensures.lookup.3 _ c.entry-entry.ensures _ c.in_err-x.ensures)
 
 pub overflow_add-result : goal.overflow_add-result
 overflow_add-result c =
-    omega (arith, operand_count _ _ _ _ _ (sym c.in_ok-x.ensures), length-drop (c.args.self.at + 1) c.args.format.now)
+    omega (arith, c.in-Some.ensures.lookup.3.0, operand_count _ _ _ _ _ (sym c.in_ok-x.ensures), length-drop (c.args.self.at + 1) c.args.format.now)
 
 pub returns : goal.returns
-returns c = next_step _ c.args.table.now.sizes _ _ c.if-format-at.false _ c.entry-entry.ensures _ c.in_ok-x.ensures
+returns c = next_step _ c.args.table.now.sizes _ _ _ c.in-Some.ensures.lookup.3 _ c.entry-entry.ensures _ c.in_ok-x.ensures
 
 pub invariant_of-item : goal.invariant_of-item
 invariant_of-item c =
     let sizes = c.args.table.now.sizes in
-    record { valid = valid _ _ _ (sym (next_step _ sizes _ _ c.if-format-at.false _ c.entry-entry.ensures _ c.in_ok-x.ensures)) sizes }
+    record { valid = valid _ _ _ (sym (next_step _ sizes _ _ _ c.in-Some.ensures.lookup.3 _ c.entry-entry.ensures _ c.in_ok-x.ensures)) sizes }
