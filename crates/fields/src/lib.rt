@@ -27,8 +27,8 @@ fn put_head(out: &mut [u8], tag: u8, n: u64)
     put_number(&mut out[1..HEAD], n);
 }
 
-// A field whose content is eight bytes. The content goes first, so that its stores become one. Its callers ask for the
-// eleven bytes too: of an array of eleven behind `&mut` a proof doesn't know the length.
+// A field whose content is eight bytes. The content goes first, so that its stores become one. As `&mut [u8; 11]` the three
+// functions of eleven bytes would ask for nothing, but `first_chunk_mut` in their caller costs 7 instructions for each value.
 fn put_eight(out: &mut [u8], tag: u8, word: u64)
     requires { 11 ≤ length out.old }
     ensures { out.new ≡ tag ∷ big 2 8 ++ big 8 word ++ drop 11 out.old }
