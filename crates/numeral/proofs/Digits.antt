@@ -20,7 +20,7 @@ use Rattle.std.proofs.lemmas.List.Sums.{position_or_len_is}
 use Rattle.std.proofs.lemmas.List.Recursion.{is_position_or_len}
 use Rattle.definition.specs.declared.Refusal.{Refusal}
 use Rattle.definition.specs.declared.Refusal.TheVariants.{NumeralTooLarge}
-use Rattle.numeral.specs.Numerals.{digit_first, grown, digit_on, read_on, numeral, read_of, short_of}
+use Rattle.numeral.specs.Numerals.{digit_first, grown, digit_on, read_on, numeral, reached, read_of, short_of}
 use Rattle.numeral.specs.declared.Numeral.{Numeral}
 use Rattle.numeral.specs.declared.Short.TheVariants as Short
 
@@ -171,6 +171,22 @@ pub short_past : (s : List ℕ) (at : ℕ) → length s ≤ at → Short.Missing
 unfolding digits
 short_past s at h = rw (drop_of_length-le s h)
 
+abbrev value_of : Result Numeral Refusal → ℕ
+value_of (Ok m) = m.value
+value_of (Err r) = 0
+
+-- the number that one digit makes
+digit_made : {A : Type 0} (d at : ℕ) (t : Option A) (n i : ℕ) → is_digit d ≡ true → d ≤ 57 → reached t n i ≡ read_on 0 at (digits (d ∷ [])) → n ≡ d - 48
+unfolding digits read_on value
+digit_made d at (Some u) n i e h q =
+    let r = rw (e, lt-ltb (0 * 10 + (d - 48)) (2 ^ 64) (omega arith)) at q in
+    let v : n ≡ 0 * 10 + (d - 48) = ap value_of r in
+    omega arith
+digit_made d at None n i e h q =
+    let r = rw (e, lt-ltb (0 * 10 + (d - 48)) (2 ^ 64) (omega arith)) at q in
+    let z : ◌≡◌ {A = ℕ} 0 1 = cc in
+    absurd (omega arith)
+
 -- of what begins with b
 module _ (b : ℕ) (s : List ℕ) where
   pub short_none : is_digit b ≡ false → Short.Missing ≡ short_of (digits (b ∷ s))
@@ -186,14 +202,18 @@ module _ (b : ℕ) (s : List ℕ) where
         go [] f = absurd (true≢false (sym f))
         go (e ∷ l) f = rw f
 
-    module _ (f : digit_first s ≡ false) (n : ℕ) (e : n ≡ b - 48) where
-      low : 48 ≤ b
-      low = leb-true 48 b (both_parts (leb 48 b) (leb b 57) d).0
+    -- no digit follows, and n was read with one byte left
+    module _ (f : digit_first s ≡ false) {A : Type 0} (at : ℕ) (t : Option A) (n i : ℕ) (q : reached t n i ≡ read_on 0 at (digits (take 1 (b ∷ s)))) where
+      low : (48 ≤ b) × (b ≤ 57)
+      low = let p = both_parts (leb 48 b) (leb b 57) d in (leb-true 48 b p.0, leb-true b 57 p.1)
+
+      made : n ≡ b - 48
+      made = digit_made b at t n i d low.1 q
 
       pub short_zero : n ≡ 0 → Short.Long ≡ short_of (digits (b ∷ s))
       unfolding digits
-      short_zero z = let q : b ≡ 48 = omega (arith, low) in rw (d, digits_none s f, q)
+      short_zero z = let p : b ≡ 48 = omega (arith, low, made) in rw (d, digits_none s f, p)
 
       pub short_one : (n ≡ 0 → ⊥) → Short.Digit n ≡ short_of (digits (b ∷ s))
       unfolding digits
-      short_one z = rw (d, digits_none s f, ne_eqb b 48 (λ q. z (omega arith)), e)
+      short_one z = rw (d, digits_none s f, ne_eqb b 48 (λ q. z (omega (arith, made))), made)

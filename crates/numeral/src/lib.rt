@@ -103,7 +103,7 @@ pub fn read(text: &[u8]) -> Result<Option<Numeral>, Refusal>
     }
 }
 
-// What the numeral at a place shows at once.
+// What the numeral at a place shows at once. A digit alone is read with one byte left, and none is too large.
 pub fn peek(text: &[u8], at: usize) -> Short
     ensures { result ≡ short_of (digits (drop at text.now)) }
 {
@@ -116,6 +116,8 @@ pub fn peek(text: &[u8], at: usize) -> Short
     if digit_first(&text[at + 1..]) {
         return Short::Long;
     }
-    let d = u64::from(*b - b'0');
-    if d == 0 { Short::Long } else { Short::Digit(d) }
+    let mut i = at;
+    let mut n = 0;
+    let _ = read_digits(&text, &mut i, &mut n, 1);
+    if n == 0 { Short::Long } else { Short::Digit(n) }
 }
