@@ -28,7 +28,7 @@ fn put_head(out: &mut [u8], tag: u8, n: u64)
 }
 
 // A field whose content is eight bytes. The content goes first, so that its stores become one. As `&mut [u8; 11]` the three
-// functions of eleven bytes would ask for nothing, but `first_chunk_mut` in their caller costs 7 instructions for each value.
+// functions of eleven bytes would ask for nothing, but `first_chunk_mut` in their caller costs 3 to 8 instructions a number.
 fn put_eight(out: &mut [u8], tag: u8, word: u64)
     requires { 11 ≤ length out.old }
     ensures { out.new ≡ tag ∷ big 2 8 ++ big 8 word ++ drop 11 out.old }
