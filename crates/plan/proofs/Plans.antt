@@ -1,22 +1,22 @@
 -- The plan of an item is what writing does: one law for each way through its checks.
 use Prim.Native.Nat.{ℕ, ◌+◌, ◌-◌, ◌^◌, ◌<◌, ◌≤◌, min}
 use native.Mathlib.Omega.{arith}
-use mathlib.Core.Path.{◌≡◌, sym, ap, subst}
+use mathlib.Core.Path.{◌≡◌, refl, sym, ap, subst}
 use mathlib.Core.Bool.{true, false}
 use mathlib.Core.List.{List, [], ◌∷◌}
 use Rattle.std.specs.Prelude.{Result, Ok, Err, Some, None, IsErrAnd}
 use lib.Dec.{T, leb, ltb, leb→le}
 use mir.Facts.{and_yes}
-use lib.ListN.{length}
+use lib.ListN.{length, take, drop}
 use borrow.Author.Tests.{leb-true}
 use Rattle.definition.specs.Answers.{refused, accepted, ◌>>=◌}
 use Rattle.definition.specs.Refusals.{refusal_number}
 use Rattle.definition.specs.Bytes.{laid}
 use Rattle.definition.specs.Ops.{is_power}
 use Rattle.definition.specs.Values as definition
-use Rattle.definition.specs.States.{further, longer, natural, alignment, fill, padding}
-use Rattle.definition.specs.Fields.{word, encode}
-use Rattle.definition.specs.Writing.{place, early, taking, write_field, write_op}
+use Rattle.definition.specs.States.{longer, natural, alignment, fill, padding}
+use Rattle.definition.specs.Fields.{has_zero, word, encode}
+use Rattle.definition.specs.Writing.{place, taking, write_field, write_op}
 use Rattle.definition.specs.declared.State.{State}
 use Rattle.definition.specs.declared.Setting.{Setting}
 use Rattle.definition.specs.declared.Kind.{Kind}
@@ -32,16 +32,17 @@ use Rattle.laws.proofs.Ops.{power_least, power_most}
 use Rattle.laws.proofs.Steps.{room_longer}
 use Rattle.values.specs.Meaning.{meaning, FieldRead}
 use Rattle.values.specs.declared.Value.{Value}
-use Rattle.store.specs.Texts.{counted_bytes}
+use Rattle.store.specs.Texts.{text_bytes, counted_bytes}
 use Rattle.word.specs.Words.{fill_of, Says}
 use Rattle.plan.specs.Places.{left_of, list_of}
 use Rattle.plan.specs.Texts.{first_text, TextRead}
-use Rattle.plan.specs.Plans.{Wrote, ItemAt, Begun, Encoded}
+use Rattle.plan.specs.Plans.{Wrote, ItemAt, Begun, Encoded, TextPlan}
 use Rattle.plan.specs.declared.item.Plan.{Plan}
+use Rattle.plan.specs.declared.text.Text.{Text}
 use Rattle.plan.specs.declared.place.Place.{Place}
 use Rattle.plan.specs.declared.place.Padded.{Padded}
 use Rattle.plan.proofs.Places.{none_left, first}
-use Rattle.plan.proofs.Texts.{TextField, no_text, counted_bytes_lem, counted_length}
+use Rattle.plan.proofs.Texts.{TextField, no_text, text_length, chars_long, chars_bytes, zero_ended_zero, zero_ended_bytes, counted_long, counted_bytes_lem, counted_length}
 
 -- ---- padding is below 16
 
@@ -67,9 +68,9 @@ passed_on {r = Err x} h q = rw h q
 
 -- ---- x and X
 module _ (at : Place) (n k : ℕ) where
-  pub pad_unaligned : (r : Refusal) → padding at.state n ≡ refused (refusal_number r) → ItemAt at (Op.Pad n k) (Err r)
+  pub pad_unaligned : {r : Result Plan Refusal} (e : Refusal) → IsErrAnd r (λ x. x ≡ e) → refused (refusal_number e) ≡ padding at.state n → ItemAt at (Op.Pad n k) r
   unfolding write_op
-  pad_unaligned r e = record { says = rw e }
+  pad_unaligned e h told = passed_on h (record { says = rw (← told) })
 
   module _ (p : ℕ) (e : padding at.state n ≡ accepted p) where
     pub pad_long : leb (at.state.length + (p + k)) (2 ^ 63 - 1) ≡ false → ItemAt at (Op.Pad n k) (Err Refusal.LengthTooLarge)
@@ -84,11 +85,6 @@ module _ (at : Place) (n k : ℕ) where
 pub unaligned : {at : Place} {f : Field} {r : Result Plan Refusal} (e : Refusal) → IsErrAnd r (λ x. x ≡ e) → refused (refusal_number e) ≡ padding at.state (natural f) → ItemAt at (Op.Put f) r
 unfolding write_op write_field
 unaligned e h told = passed_on h (record { says = rw (← told) })
-
--- c checks 9 early
-pub chars_early : (x : Padded) (n : ℕ) → padding x.place.state 1 ≡ accepted x.pads → leb (x.place.state.length + n) (2 ^ 63 - 1) ≡ false → ItemAt x.place (Op.Put (Field.Chars n)) (Err Refusal.LengthTooLarge)
-unfolding write_op write_field
-chars_early x n e h = record { says = rw (e, no_room x.place.state n h) }
 
 -- the zeros before a field and the early check are passed
 module _ {x : Padded} {f : Field} (b : Begun x f) where
@@ -135,23 +131,37 @@ module _ {x : Padded} {f : Field} {v : Value} {next : ℕ} {bytes : List ℕ} (e
         behind = e.found.sound.behind;
       }
 
+-- ---- a text with zeros behind it
+module _ (x : Padded) (t : Text) (zeros : ℕ) where
+  text_size : {f : Field} → Encoded x f (Value.Text t.start t.length) t.next (text_bytes (list_of x.place) t.start t.length zeros) → x.pads + length (text_bytes (list_of x.place) t.start t.length zeros) ≡ x.pads + (t.length + zeros)
+  text_size e = ap (λ (n : ℕ). x.pads + n) (text_length e.found zeros)
+
+  pub text_too_long : leb (x.place.state.length + (x.pads + (t.length + zeros))) (2 ^ 63 - 1) ≡ false → TextPlan x t zeros (Err Refusal.LengthTooLarge)
+  text_too_long h f e = too_long e (text_size e) h
+
+  pub text_put : leb (x.place.state.length + (x.pads + (t.length + zeros))) (2 ^ 63 - 1) ≡ true → TextPlan x t zeros (Ok (Plan.Text x.pads t zeros))
+  text_put h f e = record { says = record { wrote = put e (text_size e) h; within = e.found.sound.inside.0 } }
+
 -- ---- numbers
-module _ {x : Padded} {k : Kind} {n : ℕ} (b : Begun x (Field.Number k n)) where
-  pub number_missing : {r : Refusal} → FieldRead (list_of x.place) x.place.reader.at None → ◌≡◌ {A = Result (Value × ℕ) Refusal} (Err r) (Err Refusal.NoValueLeft)
-      → ItemAt x.place (Op.Put (Field.Number k n)) (Err r)
-  number_missing {r} h e =
-      let is : r ≡ Refusal.NoValueLeft = cc in
-      rw is (value_missing b h)
+begun_number : (x : Padded) (k : Kind) (n : ℕ) → padding x.place.state n ≡ accepted x.pads → Begun x (Field.Number k n)
+begun_number x k n padded = record { padded = padded; state = x.place.state; early_is = refl }
+
+module _ (x : Padded) (k : Kind) (n : ℕ) (padded : padding x.place.state n ≡ accepted x.pads) where
+  pub number_missing : {r : Result Plan Refusal} (e : Refusal) → IsErrAnd r (λ y. y ≡ e) → FieldRead (list_of x.place) x.place.reader.at None → ◌≡◌ {A = Result (Value × ℕ) Refusal} (Err e) (Err Refusal.NoValueLeft)
+      → ItemAt x.place (Op.Put (Field.Number k n)) r
+  number_missing e err h q =
+      let is : e ≡ Refusal.NoValueLeft = cc in
+      passed_on err (rw is (value_missing (begun_number x k n padded) h))
 
   module _ {v : Value} {next : ℕ} (found : FieldRead (list_of x.place) x.place.reader.at (Some (v, next))) where
-    pub number_refused : {r : Refusal} → Says n (word k n (meaning (list_of x.place) v)) (Err r) → ItemAt x.place (Op.Put (Field.Number k n)) (Err r)
+    pub number_refused : {r : Result Plan Refusal} (e : Refusal) → IsErrAnd r (λ y. y ≡ e) → ((l : List ℕ) → Says n (word k n (meaning l v)) (Err e)) → ItemAt x.place (Op.Put (Field.Number k n)) r
     unfolding encode
-    number_refused h = value_refused b found _ (sym (h x.place.state.big))
+    number_refused e err h = passed_on err (value_refused (begun_number x k n padded) found _ (sym (h (list_of x.place) x.place.state.big)))
 
-    module _ (w : ℕ) (says : Says n (word k n (meaning (list_of x.place) v)) (Ok w)) where
+    module _ (w : ℕ) (says : (l : List ℕ) → Says n (word k n (meaning l v)) (Ok w)) where
       number_encoded : Encoded x (Field.Number k n) v next (laid x.place.state.big n w (fill_of w))
       unfolding encode
-      number_encoded = record { begun = b; found = found; is = sym (says x.place.state.big) }
+      number_encoded = record { begun = begun_number x k n padded; found = found; is = sym (says (list_of x.place) x.place.state.big) }
 
       number_length : x.pads + length (laid x.place.state.big n w (fill_of w)) ≡ x.pads + n
       number_length = ap (λ (m : ℕ). x.pads + m) (length_laid x.place.state.big n w (fill_of w))
@@ -162,24 +172,65 @@ module _ {x : Padded} {k : Kind} {n : ℕ} (b : Begun x (Field.Number k n)) wher
       pub number_put : leb (x.place.state.length + (x.pads + n)) (2 ^ 63 - 1) ≡ true → ItemAt x.place (Op.Put (Field.Number k n)) (Ok (Plan.Number x.pads n w next))
       number_put h = record { says = put number_encoded number_length h }
 
--- ---- texts
-pub chars_room : (s : State) (n : ℕ) → leb (s.length + n) (2 ^ 63 - 1) ≡ true → early s (Field.Chars n) ≡ accepted (further s n)
-chars_room s n e = room_longer s n e
+-- ---- c, which checks 9 early
+module _ (x : Padded) (n : ℕ) (padded : padding x.place.state 1 ≡ accepted x.pads) where
+  pub chars_early : leb (x.place.state.length + n) (2 ^ 63 - 1) ≡ false → ItemAt x.place (Op.Put (Field.Chars n)) (Err Refusal.LengthTooLarge)
+  unfolding write_op write_field
+  chars_early h = record { says = rw (padded, no_room x.place.state n h) }
 
--- s: the text is found, and its length fits in n bytes
-module _ {x : Padded} {n : ℕ} (b : Begun x (Field.Counted n)) {start m next : ℕ} (found : FieldRead (list_of x.place) x.place.reader.at (Some (Value.Text start m, next))) (fits : ltb m (256 ^ n) ≡ true) where
-  counted_encoded : Encoded x (Field.Counted n) (Value.Text start m) next (counted_bytes x.place.state.big (list_of x.place) n start m)
-  counted_encoded = record { begun = b; found = found; is = counted_bytes_lem found x.place.state.big n fits }
+  module _ (room : leb (x.place.state.length + n) (2 ^ 63 - 1) ≡ true) where
+    begun_c : Begun x (Field.Chars n)
+    begun_c = record { padded = padded; state = _; early_is = room_longer x.place.state n room }
 
-  counted_size : x.pads + length (counted_bytes x.place.state.big (list_of x.place) n start m) ≡ x.pads + (n + m)
-  counted_size = ap (λ (k : ℕ). x.pads + k) (counted_length found x.place.state.big n)
+    pub chars_missing : {r : Result Plan Refusal} (e : Refusal) → IsErrAnd r (λ y. y ≡ e) → TextRead x.place.reader (Err e) → ItemAt x.place (Op.Put (Field.Chars n)) r
+    chars_missing e err h = passed_on err (text_missing begun_c tt e h)
 
-  pub counted_too_long : leb (x.place.state.length + (x.pads + (n + m))) (2 ^ 63 - 1) ≡ false → ItemAt x.place (Op.Put (Field.Counted n)) (Err Refusal.LengthTooLarge)
-  counted_too_long h = too_long counted_encoded counted_size h
+    module _ (t : Text) (found : TextRead x.place.reader (Ok t)) where
+      pub chars_too_long : n < t.length → ItemAt x.place (Op.Put (Field.Chars n)) (Err Refusal.TextDoesNotFit)
+      chars_too_long h = value_refused begun_c found Refusal.TextDoesNotFit (chars_long found x.place.state.big n h)
 
-  pub counted_put : leb (x.place.state.length + (x.pads + (n + m))) (2 ^ 63 - 1) ≡ true → (short : m ≤ 65535)
-      → ItemAt x.place (Op.Put (Field.Counted n)) (Ok (Plan.Counted x.pads n (record { start = start; length = m; next = next; short = short })))
-  counted_put h short = record { says = record { wrote = put counted_encoded counted_size h; within = found.sound.inside.0 } }
+      pub chars_put : {r : Result Plan Refusal} → t.length ≤ n → TextPlan x t (n - t.length) r → ItemAt x.place (Op.Put (Field.Chars n)) r
+      chars_put h plan = plan (Field.Chars n) (record { begun = begun_c; found = found; is = chars_bytes found x.place.state.big n h })
+
+-- ---- z
+begun_z : (x : Padded) → padding x.place.state 1 ≡ accepted x.pads → Begun x Field.ZeroEnded
+begun_z x padded = record { padded = padded; state = x.place.state; early_is = refl }
+
+module _ (x : Padded) (padded : padding x.place.state 1 ≡ accepted x.pads) where
+  pub z_missing : {r : Result Plan Refusal} (e : Refusal) → IsErrAnd r (λ y. y ≡ e) → TextRead x.place.reader (Err e) → ItemAt x.place (Op.Put Field.ZeroEnded) r
+  z_missing e err h = passed_on err (text_missing (begun_z x padded) tt e h)
+
+  module _ (t : Text) (found : TextRead x.place.reader (Ok t)) where
+    pub z_zero : has_zero (take t.length (drop t.start (list_of x.place))) ≡ true → ItemAt x.place (Op.Put Field.ZeroEnded) (Err Refusal.ZeroInText)
+    z_zero h = value_refused (begun_z x padded) found Refusal.ZeroInText (zero_ended_zero found x.place.state.big h)
+
+    pub z_put : {r : Result Plan Refusal} → has_zero (take t.length (drop t.start (list_of x.place))) ≡ false → TextPlan x t 1 r → ItemAt x.place (Op.Put Field.ZeroEnded) r
+    z_put h plan = plan Field.ZeroEnded (record { begun = begun_z x padded; found = found; is = zero_ended_bytes found x.place.state.big h })
+
+-- ---- s
+module _ (x : Padded) (n : ℕ) (padded : padding x.place.state n ≡ accepted x.pads) where
+  begun_s : Begun x (Field.Counted n)
+  begun_s = record { padded = padded; state = x.place.state; early_is = refl }
+
+  pub counted_missing : {r : Result Plan Refusal} (e : Refusal) → IsErrAnd r (λ y. y ≡ e) → TextRead x.place.reader (Err e) → ItemAt x.place (Op.Put (Field.Counted n)) r
+  counted_missing e err h = passed_on err (text_missing begun_s tt e h)
+
+  module _ (t : Text) (found : TextRead x.place.reader (Ok t)) where
+    pub counted_refused : ltb t.length (256 ^ n) ≡ false → ItemAt x.place (Op.Put (Field.Counted n)) (Err Refusal.TextDoesNotFit)
+    counted_refused h = value_refused begun_s found Refusal.TextDoesNotFit (counted_long found x.place.state.big n h)
+
+    module _ (fits : ltb t.length (256 ^ n) ≡ true) where
+      counted_encoded : Encoded x (Field.Counted n) (Value.Text t.start t.length) t.next (counted_bytes x.place.state.big (list_of x.place) n t.start t.length)
+      counted_encoded = record { begun = begun_s; found = found; is = counted_bytes_lem found x.place.state.big n fits }
+
+      counted_size : x.pads + length (counted_bytes x.place.state.big (list_of x.place) n t.start t.length) ≡ x.pads + (n + t.length)
+      counted_size = ap (λ (k : ℕ). x.pads + k) (counted_length found x.place.state.big n)
+
+      pub counted_too_long : leb (x.place.state.length + (x.pads + (n + t.length))) (2 ^ 63 - 1) ≡ false → ItemAt x.place (Op.Put (Field.Counted n)) (Err Refusal.LengthTooLarge)
+      counted_too_long h = too_long counted_encoded counted_size h
+
+      pub counted_put : leb (x.place.state.length + (x.pads + (n + t.length))) (2 ^ 63 - 1) ≡ true → ItemAt x.place (Op.Put (Field.Counted n)) (Ok (Plan.Counted x.pads n t))
+      counted_put h = record { says = record { wrote = put counted_encoded counted_size h; within = found.sound.inside.0 } }
 
 -- the size before a text is one of 1 to 16
 pub size_within : {f : Field} {n : ℕ} → T (valid_field f) → f ≡ Field.Counted n → (1 ≤ n) × (n ≤ 16)

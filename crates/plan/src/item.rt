@@ -46,6 +46,7 @@ pub enum Plan {
 }
 
 // Whether a length in so many bytes can be that of a text.
+#[tactic(auto, using(crate::proofs::Texts::count_more))]
 fn countable(size: Size, text: Text) -> bool
     ensures { result ≡ ltb text.length (256 ^ size.bytes) }
 {
@@ -57,6 +58,7 @@ fn countable(size: Size, text: Text) -> bool
 
 impl Padded<'_> {
     // A number: 11, 12, 13, 9.
+    #[tactic(auto, using(crate::proofs::Plans::number_missing, crate::proofs::Plans::number_refused, crate::proofs::Plans::number_long, crate::proofs::Plans::number_put))]
     fn number(self, number: Number) -> Result<Plan, Refusal>
         requires padded { states.padding self.place.state number.size ≡ accepted self.pads }
         ensures { ItemAt self.entry.place (ops.Put (fields.Number number.kind number.size)) result }
@@ -75,6 +77,7 @@ impl Padded<'_> {
     }
 
     // A text that passed all checks but 9, with zeros behind it.
+    #[tactic(auto, using(crate::proofs::Plans::text_too_long, crate::proofs::Plans::text_put))]
     fn put_text(self, text: Text, zeros: u64) -> Result<Plan, Refusal>
         requires { text.length + zeros ≤ 2 ^ 63 - 1 }
         ensures { TextPlan self.entry text zeros result }
@@ -90,6 +93,7 @@ impl Padded<'_> {
     }
 
     // c: 9, 11, 12, 15, 9.
+    #[tactic(auto, using(crate::proofs::Plans::chars_early, crate::proofs::Plans::chars_missing, crate::proofs::Plans::chars_too_long, crate::proofs::Plans::chars_put))]
     fn chars(self, n: u64) -> Result<Plan, Refusal>
         requires padded { states.padding self.place.state (states.natural (fields.Chars n)) ≡ accepted self.pads }
         ensures { ItemAt self.entry.place (ops.Put (fields.Chars n)) result }
@@ -106,6 +110,7 @@ impl Padded<'_> {
     }
 
     // z: 11, 12, 14, 9.
+    #[tactic(auto, using(crate::proofs::Plans::z_missing, crate::proofs::Plans::z_zero, crate::proofs::Plans::z_put))]
     fn zero_ended(self) -> Result<Plan, Refusal>
         requires padded { states.padding self.place.state (states.natural fields.ZeroEnded) ≡ accepted self.pads }
         ensures { ItemAt self.entry.place (ops.Put fields.ZeroEnded) result }
@@ -118,6 +123,7 @@ impl Padded<'_> {
     }
 
     // s: 11, 12, 15, 9.
+    #[tactic(auto, using(crate::proofs::Plans::counted_missing, crate::proofs::Plans::counted_refused, crate::proofs::Plans::counted_too_long, crate::proofs::Plans::counted_put))]
     fn counted(self, size: Size) -> Result<Plan, Refusal>
         requires padded { states.padding self.place.state size.bytes ≡ accepted self.pads }
         ensures { ItemAt self.entry.place (ops.Put (fields.Counted size.bytes)) result }
@@ -139,6 +145,7 @@ impl Padded<'_> {
 }
 
 // x and X: 6, 9.
+#[tactic(auto, using(crate::proofs::Plans::padding_lt, crate::proofs::Plans::pad_unaligned, crate::proofs::Plans::pad_long, crate::proofs::Plans::pad_zeros))]
 fn pad(place: Place, natural: NaturalAlignment, zeros: u64) -> Result<Plan, Refusal>
     requires { zeros ≤ 1 }
     ensures { ItemAt place.entry (ops.Pad natural.bytes zeros) result }
