@@ -1,4 +1,5 @@
 pub mod Answers
+pub mod Exits
 pub mod Items
 pub mod Parts
 pub mod Traces

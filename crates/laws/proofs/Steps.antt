@@ -8,7 +8,7 @@ use mathlib.Core.List.{List, [], ◌∷◌, ◌++◌, map, append_assoc}
 use lib.Dec.{T, leb}
 use lib.ListN.{length, length-append, length-replicate, length-map}
 use lib.Seq.{drop_at}
-use borrow.Author.Tests.{lt-leb, leb-false}
+use borrow.Author.Tests.{lt-leb, leb-true, leb-false}
 use borrow.Table.Steps.{cases}
 use Rattle.definition.specs.Answers.{accepted, ◌>>=◌}
 use Rattle.definition.specs.Ops.{is_power}
@@ -43,12 +43,15 @@ pub room_longer : (s : State) (n : ℕ) → Roomy s n → longer s n ≡ accepte
 unfolding longer
 room_longer s n e = rw e
 
-pub longer_twice : (s : State) (p n : ℕ) → (longer s p >>= λ t. longer t n) ≡ longer s (p + n)
+-- a sum that is counted up to 2^64-1 is too long where the whole sum is
+pub longer_capped : (s : State) (n : ℕ) → longer s (min n (2 ^ 64 - 1)) ≡ longer s n
 unfolding longer
-longer_twice s p n =
-    cases (leb (s.length + p) (2 ^ 63 - 1))
-    (λ q. rw (q, add_assoc s.length p n))
-    (λ q. rw (q, lt-leb (s.length + (p + n)) (2 ^ 63 - 1) (omega (arith, leb-false (s.length + p) (2 ^ 63 - 1) q))))
+longer_capped s n =
+    cases (leb n (2 ^ 64 - 1))
+    (λ e. let same : min n (2 ^ 64 - 1) ≡ n = omega (arith, leb-true n (2 ^ 64 - 1) e) in rw same)
+    (λ e. let over = leb-false n (2 ^ 64 - 1) e in
+    let most : min n (2 ^ 64 - 1) ≡ 2 ^ 64 - 1 = omega (arith, over) in
+    rw (most, lt-leb (s.length + (2 ^ 64 - 1)) (2 ^ 63 - 1) (omega arith), lt-leb (s.length + n) (2 ^ 63 - 1) (omega (arith, over))))
 
 -- ---- an accepted step
 pub data Step (r : Place Value) : Op → Place Value → Output → Type 0 where

@@ -52,7 +52,7 @@ impl Place {
     }
 
     // Behind an alignment and n bytes. The sum is counted up to the greatest that 64 bits hold, which is too long in any case.
-    #[tactic(auto, using(crate::proofs::Sums::longer_capped))]
+    #[tactic(auto, using(laws::proofs::Steps::longer_capped))]
     fn pad(self, natural: NaturalAlignment, n: u64) -> Result<Place, Refusal>
         ensures { answer_by state_of result ≡ measure_pad self.state natural.bytes n }
     {

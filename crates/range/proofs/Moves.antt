@@ -14,7 +14,7 @@ use Rattle.lengths.specs.Lengths.{range, extents, places, paddings, onward}
 use Rattle.lengths.specs.declared.Range.{Range}
 use Rattle.lengths.proofs.Orders.{Before, item_before}
 use Rattle.lengths.proofs.Steps.{taken_of, extents_order}
-use Rattle.measure.proofs.Sums.{longer_capped}
+use Rattle.laws.proofs.Steps.{longer_capped}
 use Rattle.range.specs.Places.{with_length, places_of}
 use Rattle.range.specs.declared.Place.{Place}
 

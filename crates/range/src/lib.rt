@@ -112,7 +112,7 @@ impl<'a> Place<'a> {
 
     // Some zeros and bytes on, with the pairs that are then left. That both lengths stay in order is asked for as it is: a type that
     // holds it would carry the place a second time, beside the zeros.
-    #[tactic(auto, using(measure::proofs::Sums::longer_capped))]
+    #[tactic(auto, using(laws::proofs::Steps::longer_capped))]
     fn onward(self, zeros: Range, bytes: Range, pairs: &'a [u8]) -> Result<Place<'a>, Refusal>
         requires { self.least + (zeros.least + bytes.least) ≤ self.greatest.length + (zeros.greatest + bytes.greatest) }
         ensures { answer_by places_of result ≡ ranges.onward (places_of self.entry) zeros (bytes, pairs.now) }

@@ -5,7 +5,7 @@ use native.Mathlib.Omega.{arith}
 use lib.IntN.{pos}
 use mir.Facts.{to_z-of_z}
 use Rattle.std.specs.Prelude.{Ok}
-use Rattle.std.proofs.lemmas.Result.{err_from_is_err_and}
+use Rattle.laws.proofs.Exits.{exit_is}
 use Rattle.definition.specs.Answers.{◌>>=◌}
 use Rattle.definition.specs.Refusals.{answer_of}
 use Rattle.calendar.specs.Calendar.{months_on, end_before, in_two_bytes, date_of, last_day}
@@ -54,8 +54,7 @@ end_before-requires c =
 
 pub returns-in_err-date : goal.returns-in_err-date
 returns-in_err-date c =
-    let p = err_from_is_err_and c.from_residual.result c.from_residual.ensures.1 in
-    rw (p.1, p.2) (sym (rw c.in_err-date.was at (decided (goal.at.returns-in_err-date c).After-date_of)))
+    rw (exit_is c.from_residual.ensures.1) (sym (rw c.in_err-date.was at (decided (goal.at.returns-in_err-date c).After-date_of)))
 
 pub returns : goal.returns
 returns c =

@@ -1,25 +1,22 @@
 -- `counted` meets its contract: 17 where the length ends, 18 where it does not fit, then the text behind it.
 use native.Mathlib.Omega.{arith}
-use Rattle.std.proofs.lemmas.Result.{err_from_is_err_and}
+use Rattle.laws.proofs.Exits.{exit_is}
 use Rattle.decode.proofs.Rests.{split_taken}
 use Rattle.decode.proofs.Numbers.{none_of}
 use Rattle.decode.proofs.Texts.{counted_ended, counted_wide, counted_refused, counted_read}
 use Rattle.decode.proofs.counted.Goals as goal
 
 pub returns-in_err-bytes : goal.returns-in_err-bytes
-returns-in_err-bytes c =
-    let p = err_from_is_err_and c.from_residual.result c.from_residual.ensures.1 in rw (p.1, p.2) (counted_ended _ c.in_err-bytes.ensures)
+returns-in_err-bytes c = rw (exit_is c.from_residual.ensures.1) (counted_ended _ c.in_err-bytes.ensures)
 
 pub returns-in_err-n : goal.returns-in_err-n
 returns-in_err-n c =
-    let p = err_from_is_err_and c.from_residual-in_err-n.result c.from_residual-in_err-n.ensures.1 in
     let n = none_of c.in_err-n.ensures.value in
-    rw (p.1, p.2, n.1) (counted_wide _ (split_taken c.args.rest.within c.in_ok-bytes.ensures) (rw n.0 at c.get_unsigned.ensures))
+    rw (exit_is c.from_residual-in_err-n.ensures.1, n.1) (counted_wide _ (split_taken c.args.rest.within c.in_ok-bytes.ensures) (rw n.0 at c.get_unsigned.ensures))
 
 pub returns-in_err-x : goal.returns-in_err-x
 returns-in_err-x c =
-    let p = err_from_is_err_and c.from_residual-in_err-x.result c.from_residual-in_err-x.ensures.1 in
-    rw (p.1, p.2)
+    rw (exit_is c.from_residual-in_err-x.ensures.1)
     (counted_refused _ (split_taken c.args.rest.within c.in_ok-bytes.ensures) (rw c.in_ok-n.ensures.ok_part at c.get_unsigned.ensures) (c.in_err-x.ensures c.args.big))
 
 pub overflow_add-result : goal.overflow_add-result

@@ -6,20 +6,18 @@ use mathlib.Core.Path.{sym, ◌∙◌}
 use mir.Facts.{to_z-of_z}
 use lib.Dec.{eqb→eq}
 use borrow.Author.Rules.{rules, sfits_of}
-use Rattle.std.proofs.lemmas.Result.{err_from_is_err_and}
+use Rattle.laws.proofs.Exits.{exit_is}
 use Rattle.decode.proofs.Rests.{split_taken, taken_size}
 use Rattle.decode.proofs.Numbers.{none_of, number_ended, signed_kind, signed_read, signed_wide, unsigned_kind, unsigned_read, unsigned_wide, single_read, double_read, alike}
 use Rattle.decode.proofs.number.Goals as goal
 
 pub returns-in_err-bytes : goal.returns-in_err-bytes
-returns-in_err-bytes c =
-    let p = err_from_is_err_and c.from_residual.result c.from_residual.ensures.1 in rw (p.1, p.2) (number_ended _ _ c.in_err-bytes.ensures)
+returns-in_err-bytes c = rw (exit_is c.from_residual.ensures.1) (number_ended _ _ c.in_err-bytes.ensures)
 
 pub returns-in_err-ok_or-in-SmallSigned : goal.returns-in_err-ok_or-in-SmallSigned
 returns-in_err-ok_or-in-SmallSigned c =
-    let p = err_from_is_err_and c.from_residual-in_err-ok_or-in-SmallSigned.result c.from_residual-in_err-ok_or-in-SmallSigned.ensures.1 in
     let n = none_of c.in_err-ok_or-in-SmallSigned.ensures.value in
-    rw (p.1, p.2, n.1) (alike (signed_kind c.in-SmallSigned.is) (signed_wide _ (split_taken c.args.rest.within c.in_ok-bytes.ensures) (rw n.0 at c.get_signed.ensures)))
+    rw (exit_is c.from_residual-in_err-ok_or-in-SmallSigned.ensures.1, n.1) (alike (signed_kind c.in-SmallSigned.is) (signed_wide _ (split_taken c.args.rest.within c.in_ok-bytes.ensures) (rw n.0 at c.get_signed.ensures)))
 
 pub returns-in_ok-ok_or-in-SmallSigned : goal.returns-in_ok-ok_or-in-SmallSigned
 returns-in_ok-ok_or-in-SmallSigned c =
@@ -28,9 +26,8 @@ returns-in_ok-ok_or-in-SmallSigned c =
 
 pub returns-in_err-ok_or-in-SmallUnsigned : goal.returns-in_err-ok_or-in-SmallUnsigned
 returns-in_err-ok_or-in-SmallUnsigned c =
-    let p = err_from_is_err_and c.from_residual-in_err-ok_or-in-SmallUnsigned.result c.from_residual-in_err-ok_or-in-SmallUnsigned.ensures.1 in
     let n = none_of c.in_err-ok_or-in-SmallUnsigned.ensures.value in
-    rw (p.1, p.2, n.1) (alike (unsigned_kind c.in-SmallUnsigned.is) (unsigned_wide _ (split_taken c.args.rest.within c.in_ok-bytes.ensures) (rw n.0 at c.get_unsigned.ensures)))
+    rw (exit_is c.from_residual-in_err-ok_or-in-SmallUnsigned.ensures.1, n.1) (alike (unsigned_kind c.in-SmallUnsigned.is) (unsigned_wide _ (split_taken c.args.rest.within c.in_ok-bytes.ensures) (rw n.0 at c.get_unsigned.ensures)))
 
 pub returns-in_ok-ok_or-in-SmallUnsigned : goal.returns-in_ok-ok_or-in-SmallUnsigned
 returns-in_ok-ok_or-in-SmallUnsigned c =

@@ -1,15 +1,14 @@
 -- `zero_ended` meets its contract: 19 without a zero, 20 above 65,535 bytes, else the text before it.
 use mathlib.Core.Path.{sym, ◌∙◌}
-use Rattle.std.proofs.lemmas.Result.{err_from_is_err_and}
+use Rattle.laws.proofs.Exits.{exit_is}
 use Rattle.decode.proofs.Numbers.{none_of}
 use Rattle.decode.proofs.Texts.{zero_missing, zero_long, zero_read}
 use Rattle.decode.proofs.zero_ended.Goals as goal
 
 pub returns-in_err-n : goal.returns-in_err-n
 returns-in_err-n c = λ o.
-    let p = err_from_is_err_and c.from_residual.result c.from_residual.ensures.1 in
     let n = none_of c.in_err-n.ensures.value in
-    rw (p.1, p.2, n.1) (zero_missing c.args.rest.data.now c.args.rest.at o (sym c.first_zero.ensures ∙ n.0))
+    rw (exit_is c.from_residual.ensures.1, n.1) (zero_missing c.args.rest.data.now c.args.rest.at o (sym c.first_zero.ensures ∙ n.0))
 
 pub returns-then-n-gt-MAX_TEXT : goal.returns-then-n-gt-MAX_TEXT
 returns-then-n-gt-MAX_TEXT c = λ o. zero_long c.args.rest.data.now c.args.rest.at o _ (sym c.first_zero.ensures ∙ c.in_ok-n.ensures.ok_part) c.if-n-gt-MAX_TEXT.true

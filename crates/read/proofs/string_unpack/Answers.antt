@@ -3,7 +3,7 @@ use native.Mathlib.Omega.{arith}
 use mathlib.Core.Path.{◌≡◌, refl}
 use lib.ListN.{length}
 use mir.Facts.{to_z-of_z}
-use Rattle.std.proofs.lemmas.Result.{err_from_is_err_and}
+use Rattle.laws.proofs.Exits.{exit_is}
 use Rattle.definition.specs.Answers.{accepted}
 use Rattle.definition.specs.Options.{options}
 use Rattle.definition.specs.States.{start}
@@ -22,14 +22,12 @@ placed c = rw c.start.ensures at c.at_offset.ensures
 
 pub returns-in_err-offset : goal.returns-in_err-offset
 returns-in_err-offset c =
-    let p = err_from_is_err_and c.from_residual.result c.from_residual.ensures.1 in
-    rw (p.1, p.2) (call_outside options refl _ _ c.args.start _ (omega arith) (rw (to_z-of_z c.ranges.start) at c.in_err-offset.ensures))
+    rw (exit_is c.from_residual.ensures.1) (call_outside options refl _ _ c.args.start _ (omega arith) (rw (to_z-of_z c.ranges.start) at c.in_err-offset.ensures))
 
 pub returns-in_err-total : goal.returns-in_err-total
 returns-in_err-total c =
-    let p = err_from_is_err_and c.from_residual-in_err-total.result c.from_residual-in_err-total.ensures.1 in
     let a = (goal.at.returns-in_err-total c).After-at_offset in
-    rw (p.1, p.2)
+    rw (exit_is c.from_residual-in_err-total.ensures.1)
     (call_refused (table_at c.table-options.result.entries) c.table-options.ensures _ _ c.args.start _ (omega arith) (found a) (placed a)
     c.pass.ensures.list
     c.in_err-total.ensures.total)

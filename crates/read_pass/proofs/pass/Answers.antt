@@ -4,7 +4,7 @@ use native.Mathlib.Omega.{arith}
 use mathlib.Core.Path.{◌≡◌, refl, sym, ◌∙◌}
 use mathlib.Core.Option.{some}
 use lib.ListN.{length, drop}
-use Rattle.std.proofs.lemmas.Result.{err_from_is_err_and}
+use Rattle.laws.proofs.Exits.{exit_is}
 use Rattle.definition.specs.Answers.{accepted}
 use Rattle.format.specs.Steps.{next_at}
 use Rattle.options.specs.Packed.{table_at}
@@ -26,15 +26,13 @@ loop-item-init c = passing_none _ c.requires c.new-c.ensures (c.args.start.withi
 
 pub returns-in_err-item : goal.returns-in_err-item
 returns-in_err-item c =
-    let p = err_from_is_err_and c.from_residual.result c.from_residual.ensures.1 in
     let r = passing_refusal c.loop-item.invariant (sym c.in_err-item.ensures) in
-    record { total = rw (p.1, p.2) r.0; list = r.1 }
+    record { total = rw (exit_is c.from_residual.ensures.1) r.0; list = r.1 }
 
 pub returns-in_err-t : goal.returns-in_err-t
 returns-in_err-t c =
-    let p = err_from_is_err_and c.from_residual-in_err-t.result c.from_residual-in_err-t.ensures.1 in
     let r = passing_refused c.loop-item.invariant (item (goal.at.returns-in_err-t c).After-op) c.in_err-t.ensures in
-    record { total = rw (p.1, p.2) r.0; list = r.1 }
+    record { total = rw (exit_is c.from_residual-in_err-t.ensures.1) r.0; list = r.1 }
 
 pub loop-item-smaller-in-Set : goal.loop-item-smaller-in-Set
 loop-item-smaller-in-Set c = omega (arith, onward (goal.at.loop-item-smaller-in-Set c).After-op)

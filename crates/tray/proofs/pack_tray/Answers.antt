@@ -1,6 +1,6 @@
 -- The settings at the format's front, the first walk, 22, and the second walk.
 use Rattle.std.proofs.Common.{◌≡◌, ◌-◌, arith, subst, length, take, drop}
-use Rattle.std.proofs.lemmas.Result.{err_from_is_err_and}
+use Rattle.laws.proofs.Exits.{exit_is}
 use Rattle.definition.specs.Options.{Table, options}
 use Rattle.definition.specs.Trays.{records_of}
 use Rattle.front.specs.Leading.{Leads}
@@ -21,8 +21,7 @@ are s = led (leads s) s.args.run.now
 
 pub returns-in_err-n : goal.returns-in_err-n
 returns-in_err-n c =
-    let p = err_from_is_err_and c.from_residual.result c.from_residual.ensures.1 in
-    rw (p.1, p.2) (refused_call _ _ _ (are (goal.at.returns-in_err-n c).After-settings-front) c.check_tray.ensures.bytes c.in_err-n.was c.check_tray.ensures.tray)
+    rw (exit_is c.from_residual.ensures.1) (refused_call _ _ _ (are (goal.at.returns-in_err-n c).After-settings-front) c.check_tray.ensures.bytes c.in_err-n.was c.check_tray.ensures.tray)
 
 pub returns-then-out-n : goal.returns-then-out-n
 returns-then-out-n c =

@@ -1,6 +1,6 @@
 -- The integer's bits where it is in range, or 12.
 use Rattle.std.proofs.Common.{ℤ, ap, sym, ◌∙◌, arith}
-use Rattle.std.proofs.lemmas.Result.{err_from_is_err_and}
+use Rattle.laws.proofs.Exits.{exit_is}
 use Rattle.definition.specs.Answers.{Checked, ◌>>=◌}
 use Rattle.word.specs.Words.{in_range, ranged_or}
 use Rattle.word.proofs.Words.{says_ranged, says_refused, ranged_is}
@@ -10,8 +10,7 @@ pub returns-in_err-z : goal.returns-in_err-z
 returns-in_err-z c =
     let s = c.args.signed in
     let n = c.args.size.bytes in
-    let p = err_from_is_err_and c.from_residual.result c.from_residual.ensures.1 in
-    λ l. rw (p.1, p.2) (says_refused n _ (ranged_is n _ s ∙ ap (λ (x : Checked ℤ). x >>= λ z. ranged_or (in_range s n z) z) (sym (c.in_err-z.ensures l))))
+    λ l. rw (exit_is c.from_residual.ensures.1) (says_refused n _ (ranged_is n _ s ∙ ap (λ (x : Checked ℤ). x >>= λ z. ranged_or (in_range s n z) z) (sym (c.in_err-z.ensures l))))
 
 pub returns : goal.returns
 returns c =

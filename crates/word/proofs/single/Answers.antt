@@ -1,6 +1,6 @@
 -- The number that was found, rounded, or 12.
 use Rattle.std.proofs.Common.{ℕ, pos, sym, ap, ◌∙◌}
-use Rattle.std.proofs.lemmas.Result.{err_from_is_err_and}
+use Rattle.laws.proofs.Exits.{exit_is}
 use Rattle.single.specs.Single.{to_single}
 use Rattle.definition.specs.Answers.{Checked, accepted, ◌>>=◌}
 use Rattle.word.proofs.Words.{says_pattern, says_refused, single_is}
@@ -8,8 +8,7 @@ use Rattle.word.proofs.single.Goals as goal
 
 pub returns-in_err-b : goal.returns-in_err-b
 returns-in_err-b c =
-    let p = err_from_is_err_and c.from_residual.result c.from_residual.ensures.1 in
-    λ l n h. rw (p.1, p.2) (says_refused n _ (single_is n _ ∙ ap (λ (x : Checked ℕ). x >>= λ b. accepted (pos (to_single b))) (sym (c.in_err-b.ensures l))))
+    λ l n h. rw (exit_is c.from_residual.ensures.1) (says_refused n _ (single_is n _ ∙ ap (λ (x : Checked ℕ). x >>= λ b. accepted (pos (to_single b))) (sym (c.in_err-b.ensures l))))
 
 pub returns : goal.returns
 returns c =

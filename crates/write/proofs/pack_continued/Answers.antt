@@ -1,6 +1,6 @@
 -- 21 first of all, the first pass, 22, and the second pass, which answers what the first one did.
 use Rattle.std.proofs.Common.{◌≡◌, sym, ap, ◌∙◌, refl, true}
-use Rattle.std.proofs.lemmas.Result.{err_from_is_err_and}
+use Rattle.laws.proofs.Exits.{exit_is}
 use Rattle.definition.specs.Answers.{Checked}
 use Rattle.definition.specs.Calls.{call}
 use Rattle.definition.specs.Lists.{values}
@@ -27,9 +27,8 @@ returns-then-not-is_list c = malformed options refl _ _ _ _ (sym c.is_sound.ensu
 
 pub returns-in_err-total : goal.returns-in_err-total
 returns-in_err-total c =
-    let p = err_from_is_err_and c.from_residual.result c.from_residual.ensures.1 in
     let t = (goal.at.returns-in_err-total c).After-table-table in
-    rw (p.1, p.2) (total_refused _ c.table-table.ensures _ _ _ _ (sound t) (listed t) c.pass.ensures.bytes c.in_err-total.ensures.total)
+    rw (exit_is c.from_residual.ensures.1) (total_refused _ c.table-table.ensures _ _ _ _ (sound t) (listed t) c.pass.ensures.bytes c.in_err-total.ensures.total)
 
 pub returns-then-out-total : goal.returns-then-out-total
 returns-then-out-total c =

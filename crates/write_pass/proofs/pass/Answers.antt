@@ -1,7 +1,7 @@
 -- At each step, what the walk over the items says there.
 use Rattle.std.proofs.Common.{◌≡◌, sym, ◌∙◌, refl, rules, arith, drop}
 use Rattle.std.proofs.Math.Option.{some}
-use Rattle.std.proofs.lemmas.Result.{err_from_is_err_and}
+use Rattle.laws.proofs.Exits.{exit_is}
 use Rattle.definition.specs.Answers.{accepted}
 use Rattle.options.specs.Packed.{table_at}
 use Rattle.format.specs.Steps.{next_at}
@@ -22,18 +22,16 @@ returns c =
 
 pub returns-in_err-item : goal.returns-in_err-item
 returns-in_err-item c =
-    let p = err_from_is_err_and c.from_residual.result c.from_residual.ensures.1 in
     let e = passing_refusal c.loop-item.invariant.0 c.requires (sym c.in_err-item.ensures) in
-    record { total = rw (p.1, p.2) e.0; bytes = e.1 }
+    record { total = rw (exit_is c.from_residual.ensures.1) e.0; bytes = e.1 }
 
 pub advance-requires : goal.advance-requires
 advance-requires c = passing_fits c.loop-item.invariant.0 c.requires (item (goal.at.advance-requires c).After-op) c.loop-item.invariant.1
 
 pub returns-in_err-q : goal.returns-in_err-q
 returns-in_err-q c =
-    let p = err_from_is_err_and c.from_residual-in_err-q.result c.from_residual-in_err-q.ensures.1 in
     let e = passing_refused c.loop-item.invariant.0 c.requires (item (goal.at.returns-in_err-q c).After-op) _ c.in_err-q.ensures.step c.in_err-q.ensures.bytes in
-    record { total = rw (p.1, p.2) e.0; bytes = e.1 }
+    record { total = rw (exit_is c.from_residual-in_err-q.ensures.1) e.0; bytes = e.1 }
 
 pub loop-item-smaller : goal.loop-item-smaller
 loop-item-smaller c = omega (arith, item_ahead c.loop-item.invariant.0 (item (goal.at.loop-item-smaller c).After-op))

@@ -2,7 +2,7 @@
 use native.Mathlib.Omega.{arith}
 use mathlib.Core.Path.{refl, ◌∙◌}
 use Rattle.std.proofs.Common.{Err}
-use Rattle.std.proofs.lemmas.Result.{err_from_is_err_and}
+use Rattle.laws.proofs.Exits.{exit_is}
 use Rattle.definition.specs.Reading.{offset_in}
 use Rattle.decode.proofs.Rests.{past_again_refused, past_again}
 use Rattle.fetch.proofs.Places.{skips}
@@ -13,9 +13,8 @@ returns-then-p-eq0 c = skips (rw c.if-p-eq0.true at c.in_ok-p.ensures) c.args.se
 
 pub returns-in_err-past : goal.returns-in_err-past
 returns-in_err-past c =
-    let p = err_from_is_err_and c.from_residual-in_err-past.result c.from_residual-in_err-past.ensures.1 in
     let e = rw c.offset_in.ensures at c.in_err-past.ensures in
-    rw (p.1, p.2) (skips c.in_ok-p.ensures c.args.self.within refl (Err _) (past_again_refused _ _ _ _ e))
+    rw (exit_is c.from_residual-in_err-past.ensures.1) (skips c.in_ok-p.ensures c.args.self.within refl (Err _) (past_again_refused _ _ _ _ e))
 
 pub returns : goal.returns
 returns c =

@@ -1,5 +1,5 @@
 -- `step` meets its contract, by what the item does.
-use Rattle.std.proofs.lemmas.Result.{err_from_is_err_and}
+use Rattle.laws.proofs.Exits.{exit_is}
 use Rattle.fetch.proofs.Places.{blank_op, set_op, pad_op_refused, pad_op}
 use Rattle.fetch.proofs.place.Place.step.Goals as goal
 
@@ -11,8 +11,7 @@ returns-in-Set c = rw c.in-Set.is (set_op _ _ (c.args.self.within, c.args.self.l
 
 pub returns-in_err-rest-in-Pad : goal.returns-in_err-rest-in-Pad
 returns-in_err-rest-in-Pad c =
-    let p = err_from_is_err_and c.from_residual.result c.from_residual.ensures.1 in
-    rw (p.1, p.2, c.in-Pad.is) (pad_op_refused c.in_err-rest-in-Pad.ensures)
+    rw (exit_is c.from_residual.ensures.1, c.in-Pad.is) (pad_op_refused c.in_err-rest-in-Pad.ensures)
 
 pub returns-in_ok-rest-in-Pad : goal.returns-in_ok-rest-in-Pad
 returns-in_ok-rest-in-Pad c = rw c.in-Pad.is (pad_op c.args.self.limited c.in_ok-rest-in-Pad.ensures c.at_offset.ensures)
