@@ -11,7 +11,7 @@ use options::{
     CHARS_END, COUNTED_END, FIXED_END, LIMIT_END, PLAIN_END, SIGNED_END, UNSIGNED_END, kind_of,
 };
 
-// An item: the entry of its byte, and its operand, which is one that its option takes.
+// An item: the entry of its byte, packed as the table has it (options says why), and its operand, which is one that its option takes.
 #[derive(Clone, Copy)]
 pub struct Item {
     pub entry: u8,
@@ -33,7 +33,7 @@ fn plain(e: u8) -> Op
     }
 }
 
-// What the option with the entry e does, with the operand n.
+// What the option with the packed entry e does, with the operand n.
 fn op_of(e: u8, n: u64) -> Op
     ensures { result ≡ op_at e n }
 {

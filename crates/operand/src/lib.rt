@@ -1,4 +1,5 @@
-// The operand of an option: its size, limit, length or alignment, by its numeral or without one.
+// The operand of an option: its size, limit, length or alignment, by its numeral or without one. An option is told by its entry as the table
+// packs it (options says why).
 #![tactic(auto)]
 
 ghost use Rattle.std.specs.Prelude.{◌≡◌, ◌≤◌, ◌<◌, drop};
@@ -59,6 +60,7 @@ fn limit(n: u64) -> Result<u64, Refusal>
 
 // The operand of an option with the numeral n. The bounds on the entry stand at three functions: a type that held them would be made for
 // these alone.
+#[tactic(auto, using(crate::proofs::Entries::sized_by, crate::proofs::Entries::chars_by, crate::proofs::Entries::limit_by))]
 fn with_numeral(e: u8, n: u64) -> Result<u64, Refusal>
     requires low { 192 ≤ e }
     requires high { e < 248 }
@@ -74,6 +76,7 @@ fn with_numeral(e: u8, n: u64) -> Result<u64, Refusal>
 }
 
 // The operand of an option that may have a numeral and has none.
+#[tactic(auto, using(crate::proofs::Entries::sized_by, crate::proofs::Entries::chars_by, crate::proofs::Entries::limit_by))]
 fn without_numeral(e: u8) -> Result<u64, Refusal>
     requires low { 192 ≤ e }
     requires high { e < 248 }
