@@ -21,12 +21,12 @@ fn listed(bits: u64) -> ProperValue {
 }
 
 // The integer of a float, or none.
-pub fn has_integer(v: Vector) -> bool {
+pub fn has_integer(v: Vector<'_>) -> bool {
     as_integer(listed(v.a)).map(to_word) == v.expected(v.b)
 }
 
 // The f64 of an integer, and its f32.
-pub fn has_number(v: Vector) -> bool {
+pub fn has_number(v: Vector<'_>) -> bool {
     let x = ProperValue {
         value: Value::Integer(v.a.cast_signed()),
     };
@@ -34,7 +34,7 @@ pub fn has_number(v: Vector) -> bool {
 }
 
 // What T writes of a float: its integer, else its remainder.
-pub fn is_wrapped(v: Vector) -> bool {
+pub fn is_wrapped(v: Vector<'_>) -> bool {
     let x = listed(v.a);
     let integer = as_integer(x).map(to_word);
     as_wrapped(x) == Some(v.c) && integer.unwrap_or(v.c) == v.b

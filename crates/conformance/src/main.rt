@@ -23,61 +23,49 @@ mod vector;
 use align::start;
 use definition::State;
 use input::read_full;
-use parts::{front, room_for_input};
+use parts::room_for_input;
 use profile::print_profile;
-use recorded::is_same;
 use show::print_line;
 use std::io;
-use tally::Tally;
-use vector::is_held;
+use tally::{Case, Tally};
 
 // What the lines below a heading are: cases, or profiles, with the state that continued writing is in.
 #[derive(Clone, Copy)]
 enum Group<'a> {
-    Vectors(Tally<'a>),
-    Recorded(Tally<'a>),
+    Cases(Tally<'a>),
     Profiles(State),
 }
 
-// Writes what there is to say of a group that ends.
-fn report(rt: &impl Print, group: Group<'_>) -> io::Result<()> {
-    match group {
-        Group::Vectors(tally) => tally.report(rt),
-        Group::Recorded(tally) => tally.report(rt),
-        Group::Profiles(_) => Ok(()),
+impl<'a> Group<'a> {
+    // The group that a heading begins; its line is written if it is one of profiles.
+    fn begun(rt: &impl Print, heading: &'a [u8]) -> io::Result<Group<'a>> {
+        match heading {
+            [b'#', b'v', b' ', name @ ..] => Ok(Group::Cases(Tally::new(Case::Vector, name))),
+            [b'#', b'r', b' ', name @ ..] => Ok(Group::Cases(Tally::new(Case::Recorded, name))),
+            _ => {
+                print_line(rt, heading)?;
+                Ok(Group::Profiles(start()))
+            }
+        }
     }
-}
 
-// The group that a heading begins; its line is written if it is one of profiles.
-fn group_of<'a>(rt: &impl Print, heading: &'a [u8]) -> io::Result<Group<'a>> {
-    match heading {
-        [b'#', b'v', b' ', name @ ..] => Ok(Group::Vectors(Tally::new(name))),
-        [b'#', b'r', b' ', name @ ..] => Ok(Group::Recorded(Tally::new(name))),
-        _ => {
-            print_line(rt, heading)?;
-            Ok(Group::Profiles(start()))
+    // Writes what there is to say of a group that ends.
+    fn report(self, rt: &impl Print) -> io::Result<()> {
+        match self {
+            Group::Cases(tally) => tally.report(rt),
+            Group::Profiles(_) => Ok(()),
         }
     }
-}
 
-// A line, given the group that it belongs to.
-fn next<'a>(rt: &impl Print, line: &'a [u8], group: Group<'a>) -> io::Result<Group<'a>> {
-    if line.starts_with(b"#") {
-        report(rt, group)?;
-        return group_of(rt, line);
-    }
-    match group {
-        Group::Vectors(tally) => {
-            let tally = tally.counted(rt, is_held(line), line)?;
-            Ok(Group::Vectors(tally))
+    // The group of the next line.
+    fn next(self, rt: &impl Print, line: &'a [u8]) -> io::Result<Group<'a>> {
+        if line.starts_with(b"#") {
+            self.report(rt)?;
+            return Group::begun(rt, line);
         }
-        Group::Recorded(tally) => {
-            let tally = tally.counted(rt, is_same(line), line)?;
-            Ok(Group::Recorded(tally))
-        }
-        Group::Profiles(state) => {
-            let state = print_profile(rt, line, state)?;
-            Ok(Group::Profiles(state))
+        match self {
+            Group::Cases(tally) => Ok(Group::Cases(tally.counted(rt, line)?)),
+            Group::Profiles(state) => Ok(Group::Profiles(print_profile(rt, line, state)?)),
         }
     }
 }
@@ -85,13 +73,12 @@ fn next<'a>(rt: &impl Print, line: &'a [u8], group: Group<'a>) -> io::Result<Gro
 fn run(rt: &impl Print, text: &[u8]) -> io::Result<()> {
     let mut group = Group::Profiles(start());
     for line in text.split_inclusive(|b| *b == b'\n') {
-        group = next(rt, line.strip_suffix(b"\n").unwrap_or(line), group)?;
+        group = group.next(rt, line.strip_suffix(b"\n").unwrap_or(line))?;
     }
-    report(rt, group)
+    group.report(rt)
 }
 
 fn main(rt: HostRuntime) -> io::Result<()> {
     let mut input = room_for_input();
-    let n = read_full(&mut rt.reader(), &mut input)?;
-    run(&rt, front(&input, n))
+    run(&rt, read_full(&mut rt.reader(), &mut input)?)
 }

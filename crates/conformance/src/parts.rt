@@ -1,25 +1,46 @@
-// Parts of slices, and long buffers.
-ghost use Rattle.std.specs.Prelude.{◌≡◌, length};
+// Parts of slices, and buffers. Their sizes are fixed, since the programs allocate nothing.
+ghost use Rattle.std.specs.Prelude.{◌≡◌, ◌≤◌, length};
 
 // What every byte of a result buffer is before a call.
 pub const FILL: u8 = 238;
 
-// The first n bytes, or all where there are fewer.
-pub fn front(s: &[u8], n: usize) -> &[u8] {
-    if n <= s.len() { &s[0..n] } else { s }
+// The first n bytes, and those behind them: all, and none, where there are fewer.
+pub fn split(s: &[u8], n: u64) -> (&[u8], &[u8]) {
+    s.split_at(s.len().min(n as usize))
 }
 
-// Whether each byte behind the first n is the one that a result buffer has before a call.
-pub fn is_unchanged(s: &[u8], n: usize) -> bool {
-    match s.get(n..) {
-        Some(behind) => behind.iter().all(|b| *b == FILL),
-        None => true,
+// Whether each byte is the one that a result buffer has before a call.
+pub fn is_unchanged(s: &[u8]) -> bool {
+    s.iter().all(|b| *b == FILL)
+}
+
+// A buffer that is filled from its front. What it has no room for is left out.
+#[derive(Drop)]
+pub struct Filled<'b> {
+    buffer: &'b mut [u8],
+    count: usize,
+    ghost inside: { count ≤ length buffer.now },
+}
+
+impl<'b> Filled<'b> {
+    // With nothing in it.
+    pub fn new(buffer: &'b mut [u8]) -> Filled<'b> {
+        Filled { buffer, count: 0 }
     }
-}
 
-// The number that bytes write, the highest first, by its lowest 64 bits.
-pub fn word(bytes: &[u8]) -> u64 {
-    bytes.iter().fold(0, |word, b| (word << 8) | u64::from(*b))
+    // Puts bytes behind those that it has.
+    pub fn put(&mut self, bytes: &[u8]) {
+        let room = &mut self.buffer[self.count..];
+        let n = room.len().min(bytes.len());
+        room[..n].copy_from_slice(&bytes[..n]);
+        self.count += n;
+    }
+
+    // The bytes that it has.
+    pub fn bytes(self) -> &'b [u8] {
+        let Filled { buffer, count } = self;
+        &buffer[..count]
+    }
 }
 
 // A long buffer, every byte of it the same.

@@ -8,7 +8,7 @@
 //   state / BIG / LIMIT / LENGTH       sets that state
 //   any ALPHABET / SEED / COUNT        so many random formats of 4,096 bytes, through every call
 // The numbers at the end may be missing: a long buffer, start 1.
-use crate::parts::{FILL, front, is_unchanged, room};
+use crate::parts::{FILL, is_unchanged, room, split};
 use crate::random::random;
 use crate::reader::{Arguments, number, take_arguments, word_of};
 use crate::show::{print_bytes, print_list};
@@ -53,9 +53,9 @@ fn print_values(rt: &impl Print, list: &[u8]) -> io::Result<()> {
     }
 }
 
-// Whether a byte behind the first n of a result buffer changed.
-fn print_change(rt: &impl Print, out: &[u8], n: usize) -> io::Result<()> {
-    if is_unchanged(out, n) {
+// Whether a byte changed that an answer leaves as it was.
+fn print_change(rt: &impl Print, left: &[u8]) -> io::Result<()> {
+    if is_unchanged(left) {
         return Ok(());
     }
     print!(rt; "; changed")
@@ -65,13 +65,13 @@ fn print_change(rt: &impl Print, out: &[u8], n: usize) -> io::Result<()> {
 fn print_written(rt: &impl Print, answer: Result<u64, Refusal>, out: &[u8]) -> io::Result<()> {
     match answer {
         Ok(length) => {
-            let n = length as usize;
-            print_record(rt, front(out, n))?;
-            print_change(rt, out, n)
+            let (record, left) = split(out, length);
+            print_record(rt, record)?;
+            print_change(rt, left)
         }
         Err(refusal) => {
             print_refusal(rt, refusal)?;
-            print_change(rt, out, 0)
+            print_change(rt, out)
         }
     }
 }
@@ -80,14 +80,14 @@ fn print_written(rt: &impl Print, answer: Result<u64, Refusal>, out: &[u8]) -> i
 fn print_read(rt: &impl Print, answer: Result<Unpacked, Refusal>, out: &[u8]) -> io::Result<()> {
     match answer {
         Ok(unpacked) => {
-            let n = unpacked.length as usize;
-            print_values(rt, front(out, n))?;
+            let (list, left) = split(out, unpacked.length);
+            print_values(rt, list)?;
             print!(rt; "; next {}", unpacked.next.0)?;
-            print_change(rt, out, n)
+            print_change(rt, left)
         }
         Err(refusal) => {
             print_refusal(rt, refusal)?;
-            print_change(rt, out, 0)
+            print_change(rt, out)
         }
     }
 }

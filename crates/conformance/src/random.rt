@@ -1,6 +1,6 @@
 // Formats of 4,096 random bytes, through every call.
-use crate::parts::{FILL, front, is_unchanged, room};
-use crate::reader::{number, put};
+use crate::parts::{FILL, Filled, is_unchanged, room, split};
+use crate::reader::number;
 use bound::list_bound;
 use definition::Refusal;
 use measure::string_packsize;
@@ -8,11 +8,19 @@ use read::string_unpack;
 use std::io;
 use write::string_pack;
 
-// The next state of the generator (xorshift).
-fn stir(x: u64) -> u64 {
-    let a = x ^ (x << 13);
-    let b = a ^ (a >> 7);
-    b ^ (b << 17)
+// Random numbers, by xorshift.
+#[derive(Drop)]
+struct Xorshift(u64);
+
+impl Iterator for Xorshift {
+    type Item = u64;
+
+    fn next(&mut self) -> Option<u64> {
+        self.0 ^= self.0 << 13;
+        self.0 ^= self.0 >> 7;
+        self.0 ^= self.0 << 17;
+        Some(self.0)
+    }
 }
 
 // A byte of an alphabet, or any byte where it is empty.
@@ -33,24 +41,19 @@ fn value_of(option: u8) -> &'static [u8] {
     }
 }
 
-// Fills a format, and a list with a value for each of its bytes as an option; the generator's next state, and how many bytes
-// the list has.
-fn draw(alphabet: &[u8], seed: u64, format: &mut [u8], list: &mut [u8]) -> (u64, usize) {
-    let mut state = seed;
-    let mut n = 0;
-    for option in format.iter_mut() {
-        state = stir(state);
-        *option = pick(alphabet, state);
-        n = put(list, n, value_of(*option));
+// Fills a format, and a list with a value for each of its bytes as an option.
+fn draw(alphabet: &[u8], random: &mut Xorshift, format: &mut [u8], list: &mut Filled<'_>) {
+    for (option, x) in format.iter_mut().zip(random) {
+        *option = pick(alphabet, x);
+        list.put(value_of(*option));
     }
-    (state, n)
 }
 
 // Whether a list writes a record.
 fn writes(format: &[u8], list: &[u8], record: &[u8]) -> bool {
     let mut out = room(FILL);
     match string_pack(format, list, &mut out) {
-        Ok(n) => front(&out, n as usize) == record,
+        Ok(n) => split(&out, n).0 == record,
         Err(_) => false,
     }
 }
@@ -58,16 +61,16 @@ fn writes(format: &[u8], list: &[u8], record: &[u8]) -> bool {
 // How many bytes reading data from its start takes. None where the list is not within the bound, does not write again what was
 // read, or a byte behind it changed.
 fn taken(format: &[u8], data: &[u8]) -> Option<Result<u64, Refusal>> {
-    let mut list = room(FILL);
-    match string_unpack(format, data, 1, &mut list) {
+    let mut out = room(FILL);
+    match string_unpack(format, data, 1, &mut out) {
         Ok(unpacked) => {
-            let n = unpacked.length as usize;
+            let (list, left) = split(&out, unpacked.length);
             let end = unpacked.next.0.saturating_sub(1);
             let bounded = list_bound(format, data.len() as u64).is_ok_and(|b| unpacked.length <= b);
-            let again = writes(format, front(&list, n), front(data, end as usize));
-            (bounded && again && is_unchanged(&list, n)).then_some(Ok(end))
+            let again = writes(format, list, split(data, end).0);
+            (bounded && again && is_unchanged(left)).then_some(Ok(end))
         }
-        Err(refusal) => is_unchanged(&list, 0).then_some(Err(refusal)),
+        Err(refusal) => is_unchanged(&out).then_some(Err(refusal)),
     }
 }
 
@@ -106,10 +109,10 @@ fn tried(format: &[u8], list: &[u8]) -> Trial {
     let mut out = room(FILL);
     let written = string_pack(format, list, &mut out);
     let measured = string_packsize(format);
-    let n = written.unwrap_or(0) as usize;
+    let (record, left) = split(&out, written.unwrap_or(0));
     let agree = reads_zeros(format)
-        && agrees(format, front(&out, n), written, measured)
-        && is_unchanged(&out, n);
+        && agrees(format, record, written, measured)
+        && is_unchanged(left);
     Trial {
         measured: measured.is_ok(),
         written: written.is_ok(),
@@ -126,7 +129,7 @@ struct Counts {
 }
 
 fn try_all(alphabet: &[u8], seed: u64, count: u64) -> Counts {
-    let mut state = seed;
+    let mut random = Xorshift(seed);
     let mut counts = Counts {
         measured: 0,
         written: 0,
@@ -134,10 +137,10 @@ fn try_all(alphabet: &[u8], seed: u64, count: u64) -> Counts {
     };
     for _ in 0..count {
         let mut format = [0u8; 4096];
-        let mut list = room(0);
-        let (next, n) = draw(alphabet, state, &mut format, &mut list);
-        let trial = tried(&format, front(&list, n));
-        state = next;
+        let mut buffer = room(0);
+        let mut list = Filled::new(&mut buffer);
+        draw(alphabet, &mut random, &mut format, &mut list);
+        let trial = tried(&format, list.bytes());
         counts.measured += u64::from(trial.measured);
         counts.written += u64::from(trial.written);
         counts.disagree += u64::from(!trial.agree);

@@ -3,7 +3,7 @@
 // nothing. What a buffer has no room for is left out. What is read is given with the text behind it.
 ghost use Rattle.std.specs.Prelude.{◌≡◌, ◌+◌, ◌<◌, ◌≤◌, length, IfSome};
 
-use crate::parts::front;
+use crate::parts::Filled;
 
 // What a text begins with as long as a test holds, and the text behind it.
 pub fn split_while<F: Fn(u8) -> bool>(text: &[u8], test: F) -> (&[u8], &[u8])
@@ -70,6 +70,7 @@ fn natural(text: &[u8]) -> (u64, &[u8])
 }
 
 // The number behind a mark at a text's front, or another one where the mark is missing. Spaces may stand before and behind it.
+// A mark is a byte of the text, compared and not kept, so it is no enum.
 pub fn number(text: &[u8], mark: u8, otherwise: u64) -> (u64, &[u8]) {
     match text.split_first() {
         Some((first, rest)) if *first == mark => {
@@ -121,52 +122,42 @@ fn times(text: &[u8]) -> (u64, &[u8])
     }
 }
 
-// Puts bytes into a buffer behind the first n, as far as there is room; how many there are then. Buffers have a fixed size, so a
-// number says how much of one is filled, until `bytes` gives that part out.
-pub fn put(out: &mut [u8], mut n: usize, bytes: &[u8]) -> usize {
-    for b in bytes {
-        if n < out.len() {
-            out[n] = *b;
-            n += 1;
+// Puts a part into a buffer. A field has a tag and a length in three bytes, and the integer in eight.
+fn put_part(out: &mut Filled<'_>, part: Part<'_>) {
+    match part {
+        Part::Text(text) => out.put(text),
+        Part::Digits(digits) => put_digits(out, digits),
+        Part::Field(integer) => {
+            out.put(&[1, 0, 8]);
+            out.put(&integer.to_be_bytes());
         }
     }
-    n
 }
 
 // Puts the bytes of hexadecimal digits, two for each.
-fn put_digits(out: &mut [u8], mut n: usize, mut digits: &[u8]) -> usize {
-    while let [high, low, rest @ ..] = digits {
-        let byte = digit(*high).unwrap_or(0) * 16 + digit(*low).unwrap_or(0);
-        n = put(out, n, &[byte]);
-        digits = rest;
+fn put_digits(out: &mut Filled<'_>, digits: &[u8]) {
+    for [high, low] in digits.as_chunks::<2>().0 {
+        out.put(&[digit(*high).unwrap_or(0) * 16 + digit(*low).unwrap_or(0)]);
     }
-    n
 }
 
-// Puts a part. A field has a tag and a length in three bytes, and the integer in eight.
-fn put_part(out: &mut [u8], n: usize, part: Part<'_>) -> usize {
-    match part {
-        Part::Text(text) => put(out, n, text),
-        Part::Digits(digits) => put_digits(out, n, digits),
-        Part::Field(integer) => {
-            let start = put(out, n, &[1, 0, 8]);
-            put(out, start, &integer.to_be_bytes())
-        }
+// Puts a part so many times.
+fn repeat(out: &mut Filled<'_>, part: Part<'_>, times: u64) {
+    for _ in 0..times {
+        put_part(out, part);
     }
 }
 
 // The bytes that a text begins with, at a buffer's front.
-pub fn bytes<'t, 'b>(text: &'t [u8], out: &'b mut [u8]) -> (&'b [u8], &'t [u8]) {
-    let mut n = 0;
+pub fn bytes<'t, 'b>(text: &'t [u8], buffer: &'b mut [u8]) -> (&'b [u8], &'t [u8]) {
+    let mut out = Filled::new(buffer);
     let mut left = after_spaces(text);
     while let Some((part, behind)) = part_of(left) {
-        let (count, behind) = times(behind);
-        for _ in 0..count {
-            n = put_part(out, n, part);
-        }
+        let (times, behind) = times(behind);
+        repeat(&mut out, part, times);
         left = after_spaces(behind);
     }
-    (front(out, n), left)
+    (out.bytes(), left)
 }
 
 // The arguments of a call: its format, its list or data, and the text behind each.

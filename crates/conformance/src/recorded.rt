@@ -8,7 +8,7 @@
 // number. `compare/run record FILE` makes the lines.
 use crate::parts::FILL;
 use crate::reader::{bytes, number, take_arguments};
-use definition::Refusal;
+use definition::{Refusal, Unpacked};
 use lengths::Range;
 use measure::string_packsize;
 use range::packsize_range;
@@ -23,27 +23,19 @@ struct Answer {
     next: u64,
 }
 
-fn written(format: &[u8], list: &[u8], out: &mut [u8]) -> Result<Answer, TrayRefusal> {
-    let length = string_pack(format, list, out)?;
-    Ok(Answer { length, next: 0 })
+impl From<u64> for Answer {
+    fn from(length: u64) -> Answer {
+        Answer { length, next: 0 }
+    }
 }
 
-fn put_on_tray(format: &[u8], run: &[u8], out: &mut [u8]) -> Result<Answer, TrayRefusal> {
-    let length = pack_tray(format, run, out)?;
-    Ok(Answer { length, next: 0 })
-}
-
-fn read_from(
-    format: &[u8],
-    data: &[u8],
-    start: u64,
-    out: &mut [u8],
-) -> Result<Answer, TrayRefusal> {
-    let unpacked = string_unpack(format, data, start.cast_signed(), out)?;
-    Ok(Answer {
-        length: unpacked.length,
-        next: unpacked.next.0,
-    })
+impl From<Unpacked> for Answer {
+    fn from(unpacked: Unpacked) -> Answer {
+        Answer {
+            length: unpacked.length,
+            next: unpacked.next.0,
+        }
+    }
 }
 
 // Whether a number stands behind a mark, and ends the line; 0 where there is no mark.
@@ -54,10 +46,20 @@ fn has_number(text: &[u8], mark: u8, x: u64) -> bool {
 
 // Whether the answer that a text says is ours: the same bytes at the front of the buffer, and no other byte changed; the same
 // next position, or place of a refused record, if there is one. Behind the mark of a refusal stand no bytes.
-fn is_answer(text: &[u8], answer: Result<Answer, TrayRefusal>, out: &[u8]) -> bool {
+fn is_answer<A: Into<Answer>, E: Into<TrayRefusal>>(
+    text: &[u8],
+    answer: Result<A, E>,
+    out: &[u8],
+) -> bool {
     let (mark, length, x) = match answer {
-        Ok(a) => (b'=', a.length, a.next),
-        Err(refused) => (b'!', 0, refused.place),
+        Ok(given) => {
+            let a: Answer = given.into();
+            (b'=', a.length, a.next)
+        }
+        Err(refusal) => {
+            let refused: TrayRefusal = refusal.into();
+            (b'!', 0, refused.place)
+        }
     };
     let Some((first, rest)) = text.split_first() else {
         return false;
@@ -100,16 +102,16 @@ pub fn is_same(line: &[u8]) -> bool {
         b'm' => is_size(a.behind_format, string_packsize(a.format)),
         b'l' => is_range(a.behind, packsize_range(a.format, a.list)),
         b'w' => {
-            let answer = written(a.format, a.list, &mut out);
+            let answer = string_pack(a.format, a.list, &mut out);
             is_answer(a.behind, answer, &out)
         }
         b't' => {
-            let answer = put_on_tray(a.format, a.list, &mut out);
+            let answer = pack_tray(a.format, a.list, &mut out);
             is_answer(a.behind, answer, &out)
         }
         b'r' => {
             let (start, behind) = number(a.behind, b'/', 1);
-            let answer = read_from(a.format, a.list, start, &mut out);
+            let answer = string_unpack(a.format, a.list, start.cast_signed(), &mut out);
             is_answer(behind, answer, &out)
         }
         _ => false,

@@ -1,8 +1,9 @@
 // Vectors, which tools/vectors.py makes. A line is a letter, the byte order (< or >), whether an answer is expected (=) or a
 // refusal (!), and in hexadecimal a size in one byte, a word in eight, and 16 bytes, which may be two words.
+ghost use Rattle.std.specs.Prelude.{◌≤◌};
+
 use crate::floats::{has_integer, has_number, is_wrapped};
 use crate::integers::{is_float_field, is_integer_field, is_read, is_word_read, is_written};
-use crate::parts::{front, word};
 use crate::places::{is_longer, is_padding, is_start};
 use crate::reader::bytes;
 use align::{is_sound, state};
@@ -11,42 +12,66 @@ use values::is_list;
 use words::sign_byte;
 
 #[derive(Clone, Copy)]
-pub struct Vector {
+pub struct Vector<'d> {
     pub size: usize,
     pub big: bool,
     // An answer is expected, and no refusal.
     pub answers: bool,
-    // The word, and the two words after it.
+    // The word, and the 16 bytes after it, also as two words.
     pub a: u64,
     pub b: u64,
     pub c: u64,
+    pub data: &'d [u8; 16],
+    ghost short: { size ≤ 16 },
 }
 
-impl Vector {
+impl<'d> Vector<'d> {
     // A word if an answer is expected.
     pub fn expected(self, word: u64) -> Option<u64> {
         self.answers.then_some(word)
     }
+
+    // As many of the bytes as the size says.
+    pub fn part(self) -> &'d [u8] {
+        let data = self.data;
+        &data[..self.size]
+    }
 }
 
-// Whether a vector holds, given the 16 bytes. The letters stand here alone, so they are no enum.
-fn holds(letter: u8, v: Vector, data: &[u8]) -> bool {
-    if v.size > 16 {
-        return false;
+// The vector of an order, a sign and the numbers behind them.
+fn vector_of(order: u8, sign: u8, numbers: &[u8]) -> Option<Vector<'_>> {
+    let (size, words) = numbers.split_first()?;
+    let (a, data) = words.split_first_chunk::<8>()?;
+    let (b, c) = data.split_first_chunk::<8>()?;
+    if *size > 16 {
+        return None;
     }
+    Some(Vector {
+        size: usize::from(*size),
+        big: order == b'>',
+        answers: sign == b'=',
+        a: u64::from_be_bytes(*a),
+        b: u64::from_be_bytes(*b),
+        c: u64::from_be_bytes(*c.first_chunk::<8>()?),
+        data: data.first_chunk::<16>()?,
+    })
+}
+
+// Whether a vector holds. The letters stand here alone, so they are no enum.
+fn holds(letter: u8, v: Vector<'_>) -> bool {
     match letter {
         b'n' => u64::from(to_single(v.a)) == v.b,
         b'w' => from_single((v.a % 4294967296) as u32) == v.b,
         b'i' => has_integer(v),
         b'r' => has_number(v),
         b't' => is_wrapped(v),
-        b'p' => is_written(v, data, sign_byte(v.a.cast_signed())),
-        b'q' => is_written(v, data, 0),
-        b'v' => is_integer_field(v, data),
-        b'y' => is_float_field(v, data),
-        b's' => is_read(v, data),
-        b'u' => is_word_read(v, data),
-        b'k' => is_list(front(data, v.size)) == v.answers,
+        b'p' => is_written(v, sign_byte(v.a.cast_signed())),
+        b'q' => is_written(v, 0),
+        b'v' => is_integer_field(v),
+        b'y' => is_float_field(v),
+        b's' => is_read(v),
+        b'u' => is_word_read(v),
+        b'k' => is_list(v.part()) == v.answers,
         b'o' => is_start(v),
         b'a' => is_padding(v),
         b'l' => is_longer(v),
@@ -61,23 +86,6 @@ pub fn is_held(line: &[u8]) -> bool {
         return false;
     };
     let mut room = [0u8; 25];
-    let (taken, _) = bytes(numbers, &mut room);
-    let [size, words @ ..] = taken else {
-        return false;
-    };
-    let Some((a, data)) = words.split_at_checked(8) else {
-        return false;
-    };
-    let Some((b, c)) = data.split_at_checked(8) else {
-        return false;
-    };
-    let v = Vector {
-        size: usize::from(*size),
-        big: *order == b'>',
-        answers: *sign == b'=',
-        a: word(a),
-        b: word(b),
-        c: word(c),
-    };
-    holds(*letter, v, data)
+    let (numbers, _) = bytes(numbers, &mut room);
+    vector_of(*order, *sign, numbers).is_some_and(|v| holds(*letter, v))
 }
