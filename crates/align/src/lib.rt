@@ -15,14 +15,13 @@ use definition::{Field, Offset, Refusal, Setting, State};
 // The greatest length.
 pub const MAX_LENGTH: u64 = 0x7fff_ffff_ffff_ffff;
 
-// A sum of lengths that is counted up to the greatest one. No buffer is longer. Where the sum would wrap around, the total is
+// A sum of lengths that is counted up to the greatest one. No buffer is longer. Where 64 bits don't hold the sum, the total is
 // above that as it is.
 pub fn sum(total: u64, n: u64) -> u64
     requires { n ≤ 2 ^ 63 - 1 }
     ensures { (m : ℕ) → SameTo63 total m → SameTo63 result (m + n) }
 {
-    let more = total.wrapping_add(n);
-    if more < n { total } else { more }
+    total.checked_add(n).unwrap_or(total)
 }
 
 // The state with a byte order (true: big), a limit and a length.

@@ -25,7 +25,8 @@ fn is_leap(year: u64) -> bool
     year % 4 == 0 && (year % 100 != 0 || year % 400 == 0)
 }
 
-// The days of a month: the long ones are odd to July, and even from August on.
+// The days of a month: the long ones are odd to July, and even from August on. The bounds of a month stand at two functions that take
+// one: a type for them would be made of a date's month at each call.
 #[tactic(auto, using(crate::proofs::Closed::lengths_are), unfolding(calendar::specs::Calendar::month_length))]
 fn month_length(year: u64, month: u64) -> u64
     requires { (1 ≤ month) × (month ≤ 12) }
@@ -37,7 +38,8 @@ fn month_length(year: u64, month: u64) -> u64
     if is_leap(year) { 29 } else { 28 }
 }
 
-// Whether there is such a date. Every month has 28 days, so only a later day asks for the month's length.
+// Whether there is such a date. Every month has 28 days, so only a later day asks for the month's length. Each test answers by itself:
+// joined in one, they would be taken apart again in the proof.
 fn is_date(d: Date) -> bool
     ensures { result ≡ is_date d }
 {
