@@ -1,5 +1,5 @@
 -- What of the data is read: the next bytes, and the rest behind them.
-use Prim.Native.Nat.{ℕ, ◌+◌, ◌-◌, ◌≤◌}
+use Prim.Native.Nat.{ℕ, ◌+◌, ◌-◌, ◌^◌, ◌≤◌, ◌<◌}
 use native.Mathlib.Omega.{arith}
 use mathlib.Core.Path.{◌≡◌, refl, sym, ap, ◌∙◌}
 use mathlib.Core.Bool.{Bool, true, false}
@@ -7,6 +7,7 @@ use mathlib.Core.List.{List}
 use lib.Dec.{leb}
 use lib.ListN.{length, take, drop, length-drop}
 use borrow.Author.Tests.{leb-true, leb-false, le-leb, lt-leb}
+use Rattle.std.specs.Prelude.{min}
 use Rattle.definition.specs.Answers.{Checked, refused, accepted, ◌>>=◌, ◌>>◌, require}
 use Rattle.definition.specs.Fields.{first}
 use Rattle.definition.specs.Reading.{offset}
@@ -65,8 +66,6 @@ past_first d at n h e = rw (le-leb n (length (from d at)) (omega (arith, (past_t
 pub taken_size : {d : List ℕ} {at : Offset} {n : ℕ} {b : List ℕ} {r : List ℕ × Offset} → Taken d at n b r → length b ≡ n
 taken_size {d} {at} {n} g = rw g.bytes (length_part n at.0 d g.fits)
 
--- ---- k bytes behind n bytes are behind n + k
-
 -- the rest behind n bytes
 abbrev behind : List ℕ → Offset → ℕ → List ℕ × Offset
 behind d at n = (d, offset (at.0 + n))
@@ -79,29 +78,19 @@ past_is d at n = go (leb n (length (from d at)))
     go true = refl
     go false = refl
 
-module _ (d : List ℕ) (at : Offset) (n k : ℕ) where
-  abbrev bytes_left : List ℕ
-  bytes_left = from d at
+-- no data have more bytes than 64 bits count
+pub past_capped : (d : List ℕ) (at : Offset) (n : ℕ) → length d < 2 ^ 63 → past d at (min n (2 ^ 64 - 1)) ≡ past d at n
+past_capped d at n h = go (leb n (2 ^ 64 - 1)) refl
+  where
+    short : length (from d at) < 2 ^ 63
+    short = omega (arith, length-drop at.0 d)
 
-  pub past_again_refused : {j : ℕ} → refused j ≡ past d at n → refused j ≡ past d at (n + k)
-  past_again_refused {j} e = go (leb n (length bytes_left)) refl (e ∙ past_is d at n)
-    where
-      go : (t : Bool) → leb n (length bytes_left) ≡ t → refused j ≡ (require t 17 >> accepted (behind d at n)) → refused j ≡ past d at (n + k)
-      go true i q = absurd (never q)
-      go false i q = rw (past_is d at (n + k), lt-leb (n + k) (length bytes_left) (omega (arith, leb-false n (length bytes_left) i))) q
-
-  shifted : n ≤ length bytes_left → leb k (length (drop (at.0 + n) d)) ≡ leb (n + k) (length bytes_left)
-  shifted h = go (leb k (length (drop (at.0 + n) d))) refl
-    where
-      l : length (drop (at.0 + n) d) ≡ length bytes_left - n
-      l = omega (arith, length-drop (at.0 + n) d, length-drop at.0 d)
-
-      go : (t : Bool) → leb k (length (drop (at.0 + n) d)) ≡ t → t ≡ leb (n + k) (length bytes_left)
-      go true i = sym (le-leb (n + k) (length bytes_left) (omega (arith, h, l, leb-true k (length (drop (at.0 + n) d)) i)))
-      go false i = sym (lt-leb (n + k) (length bytes_left) (omega (arith, h, l, leb-false k (length (drop (at.0 + n) d)) i)))
-
-  pub past_again : at.0 ≤ length d → {r : List ℕ × Offset} → accepted r ≡ past d at n → past r.0 r.1 k ≡ past d at (n + k)
-  past_again h e =
-      let g = past_taken h e in
-      let a : at.0 + n + k ≡ at.0 + (n + k) = omega arith in
-      rw (g.kept, g.behind, past_is d (offset (at.0 + n)) k, past_is d at (n + k), shifted (omega (arith, g.fits, length-drop at.0 d)), a)
+    go : (t : Bool) → leb n (2 ^ 64 - 1) ≡ t → past d at (min n (2 ^ 64 - 1)) ≡ past d at n
+    go true i = let s : min n (2 ^ 64 - 1) ≡ n = omega (arith, leb-true n (2 ^ 64 - 1) i) in rw s
+    go false i =
+        let m = leb-false n (2 ^ 64 - 1) i in
+        rw (
+          past_is d at (min n (2 ^ 64 - 1)),
+          past_is d at n,
+          lt-leb (min n (2 ^ 64 - 1)) (length (from d at)) (omega (arith, short, m)),
+          lt-leb n (length (from d at)) (omega (arith, short, m)))

@@ -22,7 +22,7 @@ impl<'a> Place<'a> {
     ghost use Rattle.definition.specs.declared.Op.TheVariants as ops;
     ghost use Rattle.fetch.specs.Fetching.{Skips, Fetches};
 
-    // Behind an alignment and k bytes: 6, 17. Mostly there is nothing to pass over before them.
+    // Behind an alignment and k bytes: 6, 17. The sum is counted up to the greatest that 64 bits hold; no data are as long.
     fn pad(self, natural: NaturalAlignment, k: u64) -> Result<Rest<'a>, Refusal>
         ensures { Skips self.entry.data.now self.entry.state natural.bytes k result }
     {
@@ -31,10 +31,7 @@ impl<'a> Place<'a> {
             data: self.data,
             at: offset_in(self.state),
         };
-        if p == 0 {
-            return rest.past(k);
-        }
-        rest.past(p)?.past(k)
+        rest.past(p.saturating_add(k))
     }
 
     // A field: its alignment, then its value. Each kind is aligned by itself, so that the compiler knows of c and z that nothing is
