@@ -1,14 +1,14 @@
 -- What of the data is read: the next bytes, and the rest behind them.
 use Prim.Native.Nat.{ℕ, ◌+◌, ◌-◌, ◌^◌, ◌≤◌, ◌<◌}
 use native.Mathlib.Omega.{arith}
-use mathlib.Core.Path.{◌≡◌, refl, sym, ap, ◌∙◌}
-use mathlib.Core.Bool.{Bool, true, false}
+use mathlib.Core.Path.{◌≡◌, sym, ap, ◌∙◌}
 use mathlib.Core.List.{List}
 use lib.Dec.{leb}
 use lib.ListN.{length, take, drop, length-drop}
+use borrow.Table.Steps.{cases}
 use borrow.Author.Tests.{leb-true, leb-false, le-leb, lt-leb}
 use Rattle.std.specs.Prelude.{min}
-use Rattle.definition.specs.Answers.{Checked, refused, accepted, ◌>>=◌, ◌>>◌, require}
+use Rattle.definition.specs.Answers.{Checked, refused, accepted, ◌>>=◌}
 use Rattle.definition.specs.Fields.{first}
 use Rattle.definition.specs.Reading.{offset}
 use Rattle.definition.specs.declared.Offset.{Offset}
@@ -66,31 +66,12 @@ past_first d at n h e = rw (le-leb n (length (from d at)) (omega (arith, (past_t
 pub taken_size : {d : List ℕ} {at : Offset} {n : ℕ} {b : List ℕ} {r : List ℕ × Offset} → Taken d at n b r → length b ≡ n
 taken_size {d} {at} {n} g = rw g.bytes (length_part n at.0 d g.fits)
 
--- the rest behind n bytes
-abbrev behind : List ℕ → Offset → ℕ → List ℕ × Offset
-behind d at n = (d, offset (at.0 + n))
-
-past_is : (d : List ℕ) (at : Offset) (n : ℕ) → past d at n ≡ (require (leb n (length (from d at))) 17 >> accepted (behind d at n))
-unfolding past
-past_is d at n = go (leb n (length (from d at)))
-  where
-    go : (t : Bool) → ((require t 17 >> accepted (take n (from d at))) >>= λ b. accepted (behind d at n)) ≡ (require t 17 >> accepted (behind d at n))
-    go true = refl
-    go false = refl
-
 -- no data have more bytes than 64 bits count
 pub past_capped : (d : List ℕ) (at : Offset) (n : ℕ) → length d < 2 ^ 63 → past d at (min n (2 ^ 64 - 1)) ≡ past d at n
-past_capped d at n h = go (leb n (2 ^ 64 - 1)) refl
-  where
-    short : length (from d at) < 2 ^ 63
-    short = omega (arith, length-drop at.0 d)
-
-    go : (t : Bool) → leb n (2 ^ 64 - 1) ≡ t → past d at (min n (2 ^ 64 - 1)) ≡ past d at n
-    go true i = let s : min n (2 ^ 64 - 1) ≡ n = omega (arith, leb-true n (2 ^ 64 - 1) i) in rw s
-    go false i =
-        let m = leb-false n (2 ^ 64 - 1) i in
-        rw (
-          past_is d at (min n (2 ^ 64 - 1)),
-          past_is d at n,
-          lt-leb (min n (2 ^ 64 - 1)) (length (from d at)) (omega (arith, short, m)),
-          lt-leb n (length (from d at)) (omega (arith, short, m)))
+unfolding past
+past_capped d at n h =
+    let l : length (from d at) < 2 ^ 63 = omega (arith, length-drop at.0 d) in
+    cases (leb n (2 ^ 64 - 1))
+    (λ e. let same_n : min n (2 ^ 64 - 1) ≡ n = omega (arith, leb-true n (2 ^ 64 - 1) e) in rw same_n)
+    (λ e. let over = leb-false n (2 ^ 64 - 1) e in
+    rw (lt-leb (min n (2 ^ 64 - 1)) (length (from d at)) (omega (arith, l, over)), lt-leb n (length (from d at)) (omega (arith, l, over))))

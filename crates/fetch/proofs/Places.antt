@@ -36,13 +36,13 @@ skipped_is d s n = rw (drop-drop n s.length d)
 abbrev read_on_lem : List ℕ → State → Checked (Value × ℕ) → Checked (Place ℕ × List Value)
 read_on_lem d s c = c >>= λ v. accepted (skipped (place_in d s) v.1, v.0 ∷ [])
 
--- ---- p zeros, and k bytes: m in all
-module _ {d : List ℕ} {s : State} {n k p m : ℕ} (e : accepted p ≡ padding s n) (h : s.length ≤ length d) (i : m ≡ p + k) where
-  pub skips : (r : Result Rest Refusal) → answer_by rest_of r ≡ past d (offset_in s) m → Skips d s n k r
-  skips (Err x) q = record { says = rw (← e, ← i, past_refused d (offset_in s) m q); kept = tt }
+-- ---- p zeros, and k bytes
+module _ {d : List ℕ} {s : State} {n k p : ℕ} (e : accepted p ≡ padding s n) (h : s.length ≤ length d) where
+  pub skips : (r : Result Rest Refusal) → answer_by rest_of r ≡ past d (offset_in s) (p + k) → Skips d s n k r
+  skips (Err x) q = record { says = rw (← e, past_refused d (offset_in s) (p + k) q); kept = tt }
   skips (Ok x) q =
       let g = past_taken h q in
-      record { says = rw (← e, ← i, past_first d (offset_in s) m h q, g.behind) (ap accepted (sym (skipped_is d s m))); kept = g.kept }
+      record { says = rw (← e, past_first d (offset_in s) (p + k) h q, g.behind) (ap accepted (sym (skipped_is d s (p + k)))); kept = g.kept }
 
 -- ---- a field: t is the offset after its padding, and x is what its bytes give there
 field_is : {d : List ℕ} {s : State} (f : Field) {t : Rest} → Skips d s (natural f) 0 (Ok t)

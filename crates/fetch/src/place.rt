@@ -31,6 +31,10 @@ impl<'a> Place<'a> {
             data: self.data,
             at: offset_in(self.state),
         };
+        // Mostly: without this test, reading costs up to 4 % more.
+        if p == 0 {
+            return rest.past(k);
+        }
         rest.past(p.saturating_add(k))
     }
 
