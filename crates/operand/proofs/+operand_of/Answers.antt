@@ -1,6 +1,6 @@
 -- Behind X an option with a numeral is asked for its own operand, with one byte less to look at.
 use Rattle.std.proofs.Common.{◌-◌, length, drop, length-take, sym, ap, ◌∙◌, arith}
-use Rattle.std.proofs.lemmas.Result.{err_from_is_err_and}
+use Rattle.laws.proofs.Exits.{exit_is}
 use Rattle.operand.specs.Operands.{operand_at, one_more}
 use Rattle.options.specs.Packed.{entry_at, table_at}
 use Rattle.operand.proofs.Operands.{operand_none, operand_x, operand_count}
@@ -12,8 +12,7 @@ returns t c = operand_none _ _ c.if-e-lt-ALIGN_END.false _
 
 pub returns-in_err-x : goal.returns-in_err-x
 returns-in_err-x t c =
-    let p = err_from_is_err_and c.from_residual.result c.from_residual.ensures.1 in
-    rw (p.1, p.2) (c.in_err-x.ensures.same ∙ operand_x _ _ c.if-e-lt-LIMIT_END.false c.if-e-lt-ALIGN_END.true _)
+    rw (exit_is c.from_residual.ensures.1) (c.in_err-x.ensures.same ∙ operand_x _ _ c.if-e-lt-LIMIT_END.false c.if-e-lt-ALIGN_END.true _)
 
 pub returns-in-By : goal.returns-in-By
 returns-in-By t c =
@@ -27,8 +26,7 @@ pub returns-in_err-x-in-Numeral : goal.returns-in_err-x-in-Numeral
 returns-in_err-x-in-Numeral t c =
     let s = c.args.rest.now in
     let own = c.in_err-x-in-Numeral.ensures ∙ ap (operand_at (table_at c.args.table.now.entries) (entry_at c.in-Numeral.f)) (part_rest 1 s) in
-    let p = err_from_is_err_and c.from_residual-in_err-x-in-Numeral.result c.from_residual-in_err-x-in-Numeral.ensures.1 in
-    rw (p.1, p.2) (ap one_more own ∙ rw c.in-Numeral.is at c.in_ok-x.ensures.same ∙ operand_x _ _ c.if-e-lt-LIMIT_END.false c.if-e-lt-ALIGN_END.true _)
+    rw (exit_is c.from_residual-in_err-x-in-Numeral.ensures.1) (ap one_more own ∙ rw c.in-Numeral.is at c.in_ok-x.ensures.same ∙ operand_x _ _ c.if-e-lt-LIMIT_END.false c.if-e-lt-ALIGN_END.true _)
 
 pub returns-in_ok-x-in-Numeral : goal.returns-in_ok-x-in-Numeral
 returns-in_ok-x-in-Numeral t c =

@@ -1,6 +1,6 @@
 -- The byte has its entry, and what follows it its operand.
 use Rattle.std.proofs.Common.{◌+◌, length-drop, sym, arith}
-use Rattle.std.proofs.lemmas.Result.{err_from_is_err_and}
+use Rattle.laws.proofs.Exits.{exit_is}
 use Rattle.format.proofs.Cursors.{next_end, next_step}
 use Rattle.format.proofs.Walking.{valid}
 use Rattle.operand.proofs.Operands.{operand_count}
@@ -11,8 +11,7 @@ returns-in_default c = next_end _ _ _ c.in_default.ensures.lookup.3
 
 pub returns-in_err-x : goal.returns-in_err-x
 returns-in_err-x c =
-    let p = err_from_is_err_and c.from_residual.result c.from_residual.ensures.1 in
-    rw (p.1, p.2) (next_step _ c.args.table.now.sizes _ _ _ c.in-Some.ensures.lookup.3 _ c.entry-entry.ensures _ c.in_err-x.ensures)
+    rw (exit_is c.from_residual.ensures.1) (next_step _ c.args.table.now.sizes _ _ _ c.in-Some.ensures.lookup.3 _ c.entry-entry.ensures _ c.in_err-x.ensures)
 
 pub overflow_add-result : goal.overflow_add-result
 overflow_add-result c =
