@@ -70,7 +70,8 @@ pub fn set(s: State, x: Setting) -> State
     }
 }
 
-// The state n bytes on.
+// The state n bytes on. What is asked of a state stands with each function and in no ghost field: continued writing begins at whatever
+// state a caller gives, and refuses it by a test.
 pub fn further(s: State, n: u64) -> State
     requires { s.length + n ≤ 2 ^ 63 - 1 }
     ensures { result ≡ states.further s n }
@@ -119,7 +120,7 @@ fn limited(s: State, natural: u64) -> u64
     natural.min(s.limit)
 }
 
-// The lesser of a natural alignment and the limit, unless it is no power of two.
+// The lesser of a natural alignment and the limit, unless it is no power of two. It asks nothing of the number, so it takes any.
 pub fn alignment(s: State, natural: u64) -> Result<u64, Refusal>
     ensures { answer_of result ≡ states.alignment s natural }
 {

@@ -82,7 +82,7 @@ pub fn table() -> OptionTable
     OptionTable { entries: OPTIONS }
 }
 
-// The kind of a number of fixed size.
+// The kind of a number of fixed size, which its entry packs: the table says why it is no enum.
 #[tactic(auto, unfolding(crate::specs::Packed::kind_at))]
 pub fn kind_of(e: u8) -> Kind
     ensures { result ≡ kind_at e }
@@ -102,5 +102,5 @@ pub fn kind_of(e: u8) -> Kind
 pub fn size_of(e: u8) -> u64
     ensures { result ≡ size_at e }
 {
-    (e % 16) as u64
+    u64::from(e % 16)
 }

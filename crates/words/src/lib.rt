@@ -15,7 +15,8 @@ pub fn extent(x: i64) -> u64
     if x < 0 { (-1 - x) as u64 } else { x as u64 }
 }
 
-// The 64 bits of an integer: of a negative one by a wrapping subtract.
+// The 64 bits of an integer: of a negative one by a wrapping subtract, which is stated of the integer as the definition is, where a cast
+// would be stated of its bits.
 pub fn to_word(x: i64) -> u64
     ensures { result ≡ bits x }
 {
