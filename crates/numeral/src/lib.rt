@@ -103,7 +103,8 @@ pub fn read(text: &[u8]) -> Result<Option<Numeral>, Refusal>
     }
 }
 
-// What the numeral at a place shows at once. A digit alone is read with one byte left, and none is too large.
+// What the numeral at a place shows at once. A digit alone is read with one byte left, and none is too large. A slice in place of the text and
+// the place costs 8 % more instructions in 64 i4.
 pub fn peek(text: &[u8], at: usize) -> Short
     ensures { result ≡ short_of (digits (drop at text.now)) }
 {
