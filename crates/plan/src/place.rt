@@ -13,7 +13,8 @@ pub struct Place<'a> {
     ghost sound: { Sound state },
 }
 
-// A place, and how many zeros go before the value that is put there.
+// A place, and how many zeros go before the value that is put there. That they align it is what each option's method asks as
+// `padded`: by its own natural alignment, which a field here would carry along for the proofs alone.
 #[derive(Clone, Copy)]
 pub struct Padded<'a> {
     pub place: Place<'a>,
