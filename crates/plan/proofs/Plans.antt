@@ -24,6 +24,7 @@ use Rattle.definition.specs.declared.Field.{Field}
 use Rattle.definition.specs.declared.Op.{Op}
 use Rattle.definition.specs.declared.Refusal.{Refusal}
 use Rattle.laws.proofs.Answers.{same, same_number, bound, passed}
+use Rattle.laws.proofs.Exits.{exit_is}
 use Rattle.laws.proofs.Bytes.{length_laid}
 use Rattle.laws.proofs.Fields.{valid_field, number_size}
 use Rattle.laws.proofs.Numbers.{valid_size}
@@ -63,8 +64,7 @@ no_room s n e = rw e
 
 -- ---- a refusal is passed on
 pub passed_on : {at : Place} {op : Op} {r : Result Plan Refusal} {e : Refusal} → IsErrAnd r (λ x. x ≡ e) → ItemAt at op (Err e) → ItemAt at op r
-passed_on {r = Ok p} h q = absurd h
-passed_on {r = Err x} h q = rw h q
+passed_on h q = rw (exit_is h) q
 
 -- ---- x and X
 module _ (at : Place) (n k : ℕ) where
