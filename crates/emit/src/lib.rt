@@ -1,6 +1,7 @@
 // Puts the bytes of an item into the record, where `put` asks for it. The flag stands beside the buffer: once an
-// `Option<&mut [u8]>` has been lent on to a call, a proof knows nothing more of what it holds. The place stands beside it
-// too: without `put` it may lie behind the buffer, so that no part of it could be lent.
+// `Option<&mut [u8]>` has been lent on to a call, a proof knows nothing more of what it holds. With a const parameter for the flag
+// the pass is compiled twice, an item's checks are no longer inlined, and writing costs 33 to 94 % more. The place stands beside
+// it too: without `put` it may lie behind the buffer, so that no part of it could be lent.
 #![tactic(auto)]
 
 ghost use Rattle.std.specs.Prelude.{◌≡◌, true, cond, ◌++◌, ◌+◌, ◌-◌, ◌≤◌, length, replicate};
