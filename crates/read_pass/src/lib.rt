@@ -7,7 +7,7 @@ ghost use Rattle.decode.specs.Readings.{value_of, Inside};
 ghost use Rattle.options.specs.Packed.{table_at};
 ghost use Rattle.read_pass.specs.Runs.{size_of, Checks, Fits, list_after};
 
-use align::{at_offset, offset_in, parts, sum};
+use align::{at_offset, offset_in, sum};
 use decode::Reading;
 use definition::{Offset, Refusal};
 use fetch::Fetched;
@@ -73,7 +73,7 @@ pub fn pass(
         // Made anew for each item: the loop carries only the state.
         let place = Place { data, state: s };
         match place.step(item.op())? {
-            Fetched::Set(t) => s = parts(t),
+            Fetched::Set(t) => s = t,
             Fetched::Read(r, end) => {
                 if put {
                     put_reading(&mut list[total as usize..], data, r);

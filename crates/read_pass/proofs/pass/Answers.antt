@@ -39,7 +39,7 @@ loop-item-smaller-in-Set c = omega (arith, onward (goal.at.loop-item-smaller-in-
 
 pub loop-item-preserved-in-Set : goal.loop-item-preserved-in-Set
 loop-item-preserved-in-Set c =
-    passing_set c.loop-item.invariant (item (goal.at.loop-item-preserved-in-Set c).After-op) (rw c.in-Set.is at c.in_ok-t.ensures) c.parts-s.ensures
+    passing_set c.loop-item.invariant (item (goal.at.loop-item-preserved-in-Set c).After-op) (rw c.in-Set.is at c.in_ok-t.ensures) refl
 
 pub put_reading-requires-clause-room : goal.put_reading-requires-clause-room
 put_reading-requires-clause-room c =
