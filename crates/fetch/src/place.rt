@@ -31,7 +31,7 @@ impl<'a> Place<'a> {
             data: self.data,
             at: offset_in(self.state),
         };
-        // Mostly: without this test, reading costs up to 4 % more.
+        // Mostly nothing is filled up: without this test, reading numbers costs 3 to 6 % more.
         if p == 0 {
             return rest.past(k);
         }
