@@ -91,7 +91,8 @@ fn put_counted(out: &mut [u8], pads: usize, big: bool, size: usize, text: &[u8])
     put_copy(&mut rest[size..], text);
 }
 
-// Zeros, and a text after them, with its length before it in so many bytes.
+// Zeros, and a text after them, with its length before it in so many bytes. It stays apart from `emit_text`, since zeros stand behind
+// the one text and a number before the other.
 pub fn emit_counted(
     put: bool,
     out: &mut [u8],
