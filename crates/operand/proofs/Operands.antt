@@ -1,6 +1,7 @@
 -- The operand of X and of a byte that is no option, and how many bytes an option takes.
+use Rattle.std.specs.Prelude.{Result}
 use Prim.Native.Nat.{ℕ, ◌≤◌, ◌<◌}
-use mathlib.Core.Path.{◌≡◌, refl, sym, ap}
+use mathlib.Core.Path.{◌≡◌, refl, sym, ap, ◌∙◌}
 use mathlib.Core.Bool.{Bool, true, false, cond}
 use mathlib.Core.List.{List}
 use native.Mathlib.Omega.{arith}
@@ -10,8 +11,10 @@ use Rattle.definition.specs.Answers.{Checked, refused, accepted}
 use Rattle.definition.specs.Options.{Table, entry, Nothing, DigitsBehindX, Number, Entry}
 use Rattle.definition.specs.Items.{taken_by}
 use Rattle.definition.specs.Items as Numeral
+use Rattle.definition.specs.declared.Refusal.{Refusal}
 use Rattle.options.specs.Packed.{kind_at, size_at, plain_at, entry_at}
-use Rattle.operand.specs.Operands.{operand_by, operand_with, taking, operand_at, natural_at}
+use Rattle.operand.specs.Operands.{operand_by, operand_with, taking, operand_at, natural_at, behind_of}
+use Rattle.operand.specs.declared.Behind.{Behind}
 use Rattle.operand.proofs.Taken.{taken_length}
 use Rattle.operand.proofs.Entries.{cut, at_fixed, at_plain, at_align, at_none, plain_all}
 
@@ -28,6 +31,10 @@ operand_count t e s n i q = rw (taking_count (operand_with t e.rule e (taken_by 
 pub operand_x : (t : Table) (e : ℕ) → 248 ≤ e → e < 252 → (s : List ℕ) → natural_at t s ≡ operand_at t (entry_at e) s
 unfolding operand_at natural_at
 operand_x t e l h s = rw (at_align e l h)
+
+-- what the answer y says of s, which follows X
+pub behind_is : (t : Table) (e : ℕ) → 248 ≤ e → e < 252 → (s : List ℕ) (y : Result Behind Refusal) → behind_of t y s ≡ natural_at t s → behind_of t y s ≡ operand_at t (entry_at e) s
+behind_is t e l h s y p = p ∙ operand_x t e l h s
 
 pub operand_none : (t : Table) (e : ℕ) → 252 ≤ e → (s : List ℕ) → refused 1 ≡ operand_at t (entry_at e) s
 unfolding operand_at

@@ -1,5 +1,5 @@
 -- The operand of an option: its size, limit, length or alignment.
-use Rattle.std.specs.Prelude.{ℕ, ◌+◌, ◌≤◌, ◌<◌, cond, List, ltb, leb, length, drop, Result, Ok, Err}
+use Rattle.std.specs.Prelude.{ℕ, ◌+◌, ◌<◌, cond, List, ltb, leb, length, drop, Result, Ok, Err}
 use Rattle.definition.specs.Answers.{Checked, refused, accepted, ◌>>=◌}
 use Rattle.definition.specs.Items.{digits, taken_by, next_byte, numeral_of, Numeral, Missing, TooLarge, Value}
 use Rattle.definition.specs.Ops.{size_or, limit_or, needed, natural_of}
@@ -67,10 +67,10 @@ pair_of x = (x.value, x.taken)
 abbrev pub behind_of : Table → Result Behind Refusal → List ℕ → Checked (ℕ × ℕ)
 behind_of t (Err r) s = refused (refusal_number r)
 behind_of t (Ok (Behind.By x)) s = accepted (pair_of x)
-behind_of t (Ok (Behind.Numeral e)) s = one_more (operand_at t (entry_at e) (drop 1 s))
+behind_of t (Ok (Behind.Numeral o)) s = one_more (operand_at t (entry_at o.entry) (drop 1 s))
 
--- an option that stands behind X with a numeral of its own
+-- a byte stands behind X, where an option with a numeral does
 abbrev pub NumeralBehind : Result Behind Refusal → List ℕ → Type 0
 NumeralBehind (Err r) s = Unit {0}
 NumeralBehind (Ok (Behind.By x)) s = Unit {0}
-NumeralBehind (Ok (Behind.Numeral e)) s = (192 ≤ e) × (0 < length s)
+NumeralBehind (Ok (Behind.Numeral o)) s = 0 < length s

@@ -10,8 +10,10 @@ ghost use Rattle.definition.specs.Refusals.{answer_of, answer_by};
 ghost use Rattle.options.specs.Packed.{entry_at, table_at};
 ghost use Rattle.operand.specs.Operands.{operand_by, operand_at, natural_at, shown_at, pair_of, behind_of, NumeralBehind};
 
+mod numbered;
 pub mod rest;
 
+use crate::numbered::Numbered;
 use crate::rest::Rest;
 use align::is_power;
 use definition::Refusal;
@@ -28,11 +30,11 @@ pub struct Operand {
     pub taken: usize,
 }
 
-// What X takes: the alignment and how many bytes; or an option, by its entry, whose size with its numeral is the alignment.
+// What X takes: the alignment and how many bytes; or an option whose size with its numeral is the alignment.
 #[derive(Clone, Copy)]
 enum Behind {
     By(Operand),
-    Numeral(u8),
+    Numeral(Numbered),
 }
 
 // The size n.
@@ -58,18 +60,15 @@ fn limit(n: u64) -> Result<u64, Refusal>
     Ok(n)
 }
 
-// The operand of an option with the numeral n. The bounds on the entry stand at three functions: a type that held them would be made for
-// these alone.
+// The operand of an option with the numeral n.
 #[tactic(auto, using(crate::proofs::Entries::sized_by, crate::proofs::Entries::chars_by, crate::proofs::Entries::limit_by))]
-fn with_numeral(e: u8, n: u64) -> Result<u64, Refusal>
-    requires low { 192 ≤ e }
-    requires high { e < 248 }
-    ensures { answer_of result ≡ operand_by (entry_at e).class (entry_at e).size (Value n) }
+fn with_numeral(option: Numbered, n: u64) -> Result<u64, Refusal>
+    ensures { answer_of result ≡ operand_by (entry_at option.entry).class (entry_at option.entry).size (Value n) }
 {
-    if e < COUNTED_END {
+    if option.entry < COUNTED_END {
         return size(n);
     }
-    if e < CHARS_END {
+    if option.entry < CHARS_END {
         return Ok(n);
     }
     limit(n)
@@ -77,34 +76,30 @@ fn with_numeral(e: u8, n: u64) -> Result<u64, Refusal>
 
 // The operand of an option that may have a numeral and has none.
 #[tactic(auto, using(crate::proofs::Entries::sized_by, crate::proofs::Entries::chars_by, crate::proofs::Entries::limit_by))]
-fn without_numeral(e: u8) -> Result<u64, Refusal>
-    requires low { 192 ≤ e }
-    requires high { e < 248 }
-    ensures { answer_of result ≡ operand_by (entry_at e).class (entry_at e).size Missing }
+fn without_numeral(option: Numbered) -> Result<u64, Refusal>
+    ensures { answer_of result ≡ operand_by (entry_at option.entry).class (entry_at option.entry).size Missing }
 {
-    if e < COUNTED_END {
-        return Ok(size_of(e));
+    if option.entry < COUNTED_END {
+        return Ok(size_of(option.entry));
     }
-    if e < CHARS_END {
+    if option.entry < CHARS_END {
         return Err(Refusal::MissingNumeral);
     }
     Ok(8)
 }
 
 // The operand of an option that may have a numeral.
-fn by_numeral(rest: &[u8], e: u8) -> Result<Operand, Refusal>
-    requires low { 192 ≤ e }
-    requires high { e < 248 }
-    ensures { (t : Table) → answer_by pair_of result ≡ operand_at t (entry_at e) rest.now }
+fn by_numeral(rest: &[u8], option: Numbered) -> Result<Operand, Refusal>
+    ensures { (t : Table) → answer_by pair_of result ≡ operand_at t (entry_at option.entry) rest.now }
 {
     let numeral = read(rest)?;
     match numeral {
         None => Ok(Operand {
-            value: without_numeral(e)?,
+            value: without_numeral(option)?,
             taken: 0,
         }),
         Some(n) => Ok(Operand {
-            value: with_numeral(e, n.value)?,
+            value: with_numeral(option, n.value)?,
             taken: n.end,
         }),
     }
@@ -138,7 +133,7 @@ fn behind_x(table: &OptionTable, rest: &[u8]) -> Result<Behind, Refusal>
         return Err(Refusal::MisplacedX);
     }
     if e < UNSIGNED_END {
-        return Ok(Behind::Numeral(e));
+        return Ok(Behind::Numeral(Numbered { entry: e }));
     }
     if e < ALIGN_END {
         return Err(Refusal::MisplacedX);
@@ -147,19 +142,19 @@ fn behind_x(table: &OptionTable, rest: &[u8]) -> Result<Behind, Refusal>
 }
 
 // The operand of an option that may have a numeral, of X, or the refusal of a byte that is no option. Behind X an option with a numeral
-// has the operand that it has by itself.
+// has the operand that it has by itself. The lower bound stands by itself, since X and what is no option come to it too.
 fn operand_of(table: &OptionTable, rest: &[u8], e: u8) -> Result<Operand, Refusal>
     requires low { 192 ≤ e }
     ensures { answer_by pair_of result ≡ operand_at (table_at table.now.entries) (entry_at e) rest.now }
 {
     if e < LIMIT_END {
-        return by_numeral(rest, e);
+        return by_numeral(rest, Numbered { entry: e });
     }
     if e < ALIGN_END {
         return match behind_x(table, rest)? {
             Behind::By(x) => Ok(x),
-            Behind::Numeral(f) => {
-                let x = operand_of(table, &rest[1..], f)?;
+            Behind::Numeral(option) => {
+                let x = operand_of(table, &rest[1..], option.entry)?;
                 Ok(Operand {
                     value: x.value,
                     taken: x.taken + 1,

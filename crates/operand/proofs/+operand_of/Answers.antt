@@ -25,11 +25,11 @@ overflow_add-result t c =
 pub returns-in_err-x-in-Numeral : goal.returns-in_err-x-in-Numeral
 returns-in_err-x-in-Numeral t c =
     let s = c.args.rest.now in
-    let own = c.in_err-x-in-Numeral.ensures ∙ ap (operand_at (table_at c.args.table.now.entries) (entry_at c.in-Numeral.f)) (part_rest 1 s) in
+    let own = c.in_err-x-in-Numeral.ensures ∙ ap (operand_at (table_at c.args.table.now.entries) (entry_at c.in-Numeral.option.entry)) (part_rest 1 s) in
     rw (exit_is c.from_residual-in_err-x-in-Numeral.ensures.1) (ap one_more own ∙ rw c.in-Numeral.is at c.in_ok-x.ensures.same ∙ operand_x _ _ c.if-e-lt-LIMIT_END.false c.if-e-lt-ALIGN_END.true _)
 
 pub returns-in_ok-x-in-Numeral : goal.returns-in_ok-x-in-Numeral
 returns-in_ok-x-in-Numeral t c =
     let s = c.args.rest.now in
-    let own = c.in_ok-x-in-Numeral.ensures ∙ ap (operand_at (table_at c.args.table.now.entries) (entry_at c.in-Numeral.f)) (part_rest 1 s) in
+    let own = c.in_ok-x-in-Numeral.ensures ∙ ap (operand_at (table_at c.args.table.now.entries) (entry_at c.in-Numeral.option.entry)) (part_rest 1 s) in
     ap one_more own ∙ rw c.in-Numeral.is at c.in_ok-x.ensures.same ∙ operand_x _ _ c.if-e-lt-LIMIT_END.false c.if-e-lt-ALIGN_END.true _
