@@ -7,10 +7,6 @@ ghost use Rattle.values.specs.Meaning.{is_accepted};
 ghost use Rattle.runs.specs.Entries.{EntryRead};
 
 use definition::Refusal;
-use load::get_word;
-
-// How many bytes stand before a list, which say its length.
-const LENGTH: usize = 2;
 
 // The first list of a run, and the run behind it. None at the run's end.
 pub fn list_at(run: &[u8]) -> Result<Option<(&[u8], &[u8])>, Refusal>
@@ -19,14 +15,11 @@ pub fn list_at(run: &[u8]) -> Result<Option<(&[u8], &[u8])>, Refusal>
     if run.is_empty() {
         return Ok(None);
     }
-    if run.len() < LENGTH {
+    let [high, low, behind @ ..] = run else {
         return Err(Refusal::DamagedRun);
-    }
-    let n = get_word(&run[..LENGTH], true) as usize;
-    if run.len() - LENGTH < n {
-        return Err(Refusal::DamagedRun);
-    }
-    Ok(Some((&run[LENGTH..LENGTH + n], &run[LENGTH + n..])))
+    };
+    let n = usize::from(u16::from_be_bytes([*high, *low]));
+    Ok(Some(behind.split_at_checked(n).ok_or(Refusal::DamagedRun)?))
 }
 
 // Whether the lengths of a run end at its last byte.
