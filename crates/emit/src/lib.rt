@@ -30,11 +30,11 @@ pub fn emit_zeros(put: bool, out: &mut [u8], at: usize, n: usize)
 }
 
 // A number's part of the record: zeros, and the word.
-fn put_number(out: &mut [u8], zeros: usize, big: bool, word: u64)
-    requires { zeros ≤ length out.old }
-    ensures { out.new ≡ replicate zeros 0 ++ laid big (length out.old - zeros) word (fill_of word) }
+fn put_number(out: &mut [u8], pads: usize, big: bool, word: u64)
+    requires { pads ≤ length out.old }
+    ensures { out.new ≡ replicate pads 0 ++ laid big (length out.old - pads) word (fill_of word) }
 {
-    let (front, number) = out.split_at_mut(zeros);
+    let (front, number) = out.split_at_mut(pads);
     put_zeros(front);
     put_integer(number, big, word, fill(word));
 }
@@ -44,18 +44,18 @@ pub fn emit_number(
     put: bool,
     out: &mut [u8],
     at: usize,
-    zeros: usize,
+    pads: usize,
     big: bool,
     size: usize,
     word: u64,
 )
-    requires { put ≡ true → at + (zeros + size) ≤ length out.old }
-    ensures { out.new ≡ cond put (paste out.old at (replicate zeros 0 ++ laid big size word (fill_of word)) (zeros + size)) out.old }
+    requires { put ≡ true → at + (pads + size) ≤ length out.old }
+    ensures { out.new ≡ cond put (paste out.old at (replicate pads 0 ++ laid big size word (fill_of word)) (pads + size)) out.old }
 {
     if !put {
         return;
     }
-    put_number(&mut out[at..at + (zeros + size)], zeros, big, word);
+    put_number(&mut out[at..at + (pads + size)], pads, big, word);
 }
 
 // A text's part of the record: zeros, the text, and zeros.
