@@ -65,7 +65,7 @@ pub enum Refusal {
 }
 
 impl Refusal {
-    // Its number.
+    // Its number, which is the discriminant.
     pub fn number(self) -> u8
         ensures { result ≡ refusal_number self }
     {
@@ -121,7 +121,7 @@ pub enum Op {
     Put(Field),
 }
 
-// The state between items: byte order, alignment limit and length so far.
+// The state between items: byte order, alignment limit and length so far. The order is a bool (true: big), as the definitions have it.
 #[derive(Clone, Copy)]
 pub struct State {
     pub big: bool,

@@ -25,7 +25,7 @@ use tray::pack_tray;
 use values::fields_after;
 use write::{pack_continued, string_pack};
 
-// ---- the words of an answer
+// ---- the words of an answer: functions and no `From`, since what the words are, and their order, belongs to the C interface
 
 fn word(n: u64) -> [u64; 1]
     ensures { result ≡ word n }

@@ -1,6 +1,7 @@
 -- The place after a field and after an item.
 use Prim.Native.Nat.{ℕ}
 use mathlib.Core.Path.{◌≡◌, refl, sym, ap, ◌∙◌}
+use mathlib.Core.Bool.{Bool, true, false}
 use mathlib.Core.List.{List, [], ◌∷◌}
 use lib.Dec.{T}
 use lib.ListN.{take, drop}
@@ -106,3 +107,17 @@ module _ {d : List ℕ} {s : State} {n k : ℕ} where
   pub pad_op : {x : Rest} {t : State} → Limited s → Skips d s n k (Ok x) → t ≡ at_offset s x.at → Fetches d s (Op.Pad n k) (Ok (Fetched.Set t))
   unfolding read_op
   pad_op {x} h p e = rw e (record { says = rw (← p.says); stands = (rw p.kept at x.within, h) })
+
+-- ---- fields that don't align
+abbrev pub is_unaligned : Field → Bool
+is_unaligned (Field.Number k n) = false
+is_unaligned (Field.Chars n) = true
+is_unaligned Field.ZeroEnded = true
+is_unaligned (Field.Counted n) = false
+
+-- one of them that is not c is z
+pub zero_ended_left : (f : Field) → T (is_unaligned f) → ((n : ℕ) → f ≡ Field.Chars n → ⊥) → f ≡ Field.ZeroEnded
+zero_ended_left (Field.Number k n) h o = absurd h
+zero_ended_left (Field.Chars n) h o = absurd (o n refl)
+zero_ended_left Field.ZeroEnded h o = refl
+zero_ended_left (Field.Counted n) h o = absurd h

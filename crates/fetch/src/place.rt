@@ -9,7 +9,7 @@ use decode::{counted, number, text, zero_ended};
 use definition::{Field, Op, Refusal, State};
 use items::{Number, ValidField, ValidOp};
 
-// At the end of what is read of the data, in a state.
+// At the end of what is read of the data, in a state, whose length is the offset there, as in the definition.
 #[derive(Clone, Copy)]
 pub struct Place<'a> {
     pub data: &'a [u8],

@@ -18,7 +18,7 @@ fn put_number(out: &mut [u8], v: u64)
     put(out, true, v, 0);
 }
 
-// A field's tag and length.
+// A field's tag, which definition says why it is a byte, and length.
 fn put_head(out: &mut [u8], tag: u8, n: u64)
     requires { 3 ≤ length out.old }
     ensures { out.new ≡ tag ∷ big 2 n ++ drop 3 out.old }

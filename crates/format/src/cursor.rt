@@ -10,7 +10,7 @@ use operand::operand_at;
 use operand::rest::Rest;
 use options::OptionTable;
 
-// A place in a format.
+// A place in a format: a cursor by value that hands back the next one, a form that the project names. So it is no `Iterator`, and holds no format.
 #[derive(Clone, Copy)]
 pub struct Cursor {
     pub at: usize,

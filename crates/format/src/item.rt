@@ -19,7 +19,7 @@ pub struct Item {
     ghost valid: { T (valid_op (op_at entry operand)) } by { T_prop (valid_op (op_at entry operand)) },
 }
 
-// What an option does that has no operand.
+// What an option does that has no operand; the numbers are those of the table in options.
 #[tactic(auto, unfolding(options::specs::Packed::plain_at))]
 fn plain(e: u8) -> Op
     ensures { result ≡ op_for (plain_at e) 0 }

@@ -1,5 +1,6 @@
 // What the passes go over: items, fields and sizes that are as options make them. A size is checked where it is read of the format, and
-// is a fact of its type from there on.
+// is a fact of its type from there on. The types stand around `Op` and `Field`, and no facts in those: they are the definitions' own types, which
+// hold any size.
 #![tactic(auto)]
 
 ghost use Rattle.std.specs.Prelude.{◌≡◌, ◌≤◌, T};

@@ -17,7 +17,8 @@ fn low(size: usize) -> usize
 }
 
 // The number that the low bytes write, byte by byte. The size stands beside the bytes for the constants of `get_word`:
-// with `bytes.len()` here, its arms are one, and the loop never becomes a load.
+// with `bytes.len()` here, its arms are one, and the loop never becomes a load: 138 instructions, and not 78. Places and no iterator: which
+// byte is next depends on the order.
 fn get_bytes(bytes: &[u8], size: usize, big: bool) -> u64
     requires { size ≡ length bytes.now }
     ensures { (result ≡ total (low_bytes big (length bytes.now) bytes.now)) × (result < 256 ^ low (length bytes.now)) }

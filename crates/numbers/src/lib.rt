@@ -86,7 +86,7 @@ fn rounded(n: u64) -> u64
     (EXPONENT_OF_TOP - 1 - zeros) * LEADING + nearest(n << zeros, EXTRA_BITS)
 }
 
-// The bits of the float nearest to an integer.
+// The bits of the float nearest to an integer, by its extent, as the definitions count.
 fn bits_of(n: i64) -> u64
     ensures { some result ≡ definition.as_number (definition.integer n) }
 {

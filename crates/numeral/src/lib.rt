@@ -1,4 +1,4 @@
-// Numerals: leading zeros, and digits that do not count, are passed by a loop, and the rest is read by recursion.
+// Numerals: leading zeros, and digits that do not count, are passed over by `position`, and the rest is read by recursion.
 #![tactic(auto)]
 
 ghost use Rattle.std.specs.Prelude.{◌≡◌, ◌+◌, ◌*◌, ◌^◌, ◌<◌, length, take, drop};
@@ -56,7 +56,7 @@ fn grown(n: u64, d: u64) -> Result<Option<u64>, Refusal>
     }
 }
 
-// The number that the digit at a place makes, after those that made n; none where no byte is left, or no digit stands there.
+// One step of the recursion: the number that the digit at a place makes, after those that made n; none where no byte is left, or no digit stands there.
 fn digit_on(text: &[u8], at: usize, n: u64, left: usize) -> Result<Option<u64>, Refusal>
     ensures { result ≡ digit_on n (take left (drop at text.now)) }
 {
@@ -69,7 +69,7 @@ fn digit_on(text: &[u8], at: usize, n: u64, left: usize) -> Result<Option<u64>, 
     grown(n, u64::from(*b - b'0'))
 }
 
-// Reads the digits at a place one a step, as long as bytes are left: n, which the digits before made, becomes the number that they make, and
+// Reads the digits at a place by recursion, one a step, which is a form that the project names, as long as bytes are left: n, which the digits before made, becomes the number that they make, and
 // at the place after them. None says that they make 2^64 or more. The slice is lent by a reference, as n and at are, and the answer is a tag
 // alone, so that a step compiles to a jump: with a refusal in the answer it is a call, of 23 instructions in place of 16.
 fn read_digits(text: &&[u8], at: &mut usize, n: &mut u64, left: usize) -> Option<()>

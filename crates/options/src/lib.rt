@@ -75,7 +75,7 @@ impl OptionTable {
     }
 }
 
-// The option table.
+// The option table. A caller keeps it for a whole call, since each use copies it.
 pub fn table() -> OptionTable
     ensures { table_at result.entries ≡ options }
 {

@@ -51,8 +51,7 @@ fn put_reading(list: &mut [u8], data: &[u8], r: Reading)
 }
 
 // Reads a format from a place on. With `put`, reading is accepted, and the list has room for the values. The list is no part of what
-// steps take and give, and the flag stands beside it: once an `Option<&mut [u8]>` has been lent on to a call, a proof knows nothing more
-// of what it holds.
+// steps take and give, and the flag stands beside it, as in emit.
 pub fn pass(
     table: &OptionTable,
     format: &[u8],

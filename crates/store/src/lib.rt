@@ -20,7 +20,8 @@ fn byte_of(word: u64, fill: u8, k: usize) -> u8
 }
 
 // Writes an integer byte by byte. The size stands beside the bytes for the constants of `put`: with `out.len()` here, its
-// arms are one, the loop never becomes a store, and four bytes cost 95 instructions and not 38.
+// arms are one, the loop never becomes a store, and four bytes cost 95 instructions and not 38. Places and no iterator: which byte is next
+// depends on the order.
 #[tactic(auto, using(crate::proofs::Bytes::laid_is))]
 fn put_bytes(out: &mut [u8], size: usize, big: bool, word: u64, fill: u8)
     requires { size ≡ length out.old }

@@ -21,7 +21,8 @@ use values::is_list;
 use values::reader::Reader;
 use write_pass::pass;
 
-// Why a tray is refused, and the place of the record that is: its list's place from 1, or 0 of what no list is refused for.
+// Why a tray is refused, and the place of the record that is: its list's place from 1, or 0 of what no list is refused for, as the definition
+// and the C call have it.
 #[derive(Clone, Copy)]
 pub struct TrayRefusal {
     pub refusal: Refusal,
@@ -111,7 +112,8 @@ impl Packing<'_> {
         Ok(total)
     }
 
-    // Puts the records of a tray that is accepted, one behind the other.
+    // Puts the records of a tray that is accepted, one behind the other. The buffer stays whole, and `end` says how much of it is put: what is
+    // said of it afterwards is about the whole.
     fn put_tray(self, run: &[u8], out: &mut [u8])
         requires { Fits (tray_from self.state self.format.now run.now) (length out.old) }
         ensures { out.new ≡ put_in out.old (tray_from self.entry.state self.entry.format.now run.now).answer }

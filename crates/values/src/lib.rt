@@ -51,7 +51,7 @@ fn float_of(b: u64) -> Value
 }
 
 // The field at an offset of a list that is well formed from there on: its value, with the offset of the next field.
-// None at the end.
+// None at the end. The reader's method, for a caller that has no reader.
 pub fn field_at(list: &[u8], at: usize) -> Option<(Value, usize)>
     requires { is_accepted (values (drop at list.now)) ≡ true }
     ensures { FieldRead list.now at result }

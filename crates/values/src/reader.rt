@@ -1,4 +1,5 @@
-// The value reader: a list, and the offset of one of its fields, from which on the list is well formed.
+// The value reader: a list, and the offset of one of its fields, from which on the list is well formed. The list as it is and an offset, and no
+// shorter slice: a thin struct of these two is a form that the project names.
 ghost use Rattle.std.specs.Prelude.{◌≡◌, true, length, drop};
 ghost use Rattle.definition.specs.Lists.{values};
 ghost use Rattle.values.specs.Meaning.{FieldRead, is_accepted};

@@ -71,7 +71,7 @@ fn in_range(signed: bool, size: Size, z: i64) -> Result<u64, Refusal>
     }
 }
 
-// i l, signed, and I L: an integer in the range of size bytes.
+// i l, signed, and I L: an integer in the range of size bytes. The flag is a value and no const parameter, since J asks for the range too.
 fn ranged(signed: bool, size: Size, v: ProperValue) -> Result<u64, Refusal>
     ensures { (l : List ℕ) → Says size.bytes (fields.word (cond signed kinds.Signed kinds.Unsigned) size.bytes (meaning l v.value)) result }
 {

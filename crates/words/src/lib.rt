@@ -8,7 +8,7 @@ ghost use Rattle.words.specs.Digits.{place_of};
 // The least word of a negative integer.
 const SIGN: u64 = 0x8000_0000_0000_0000;
 
-// n for n, and n for -1 - n.
+// n for n, and n for -1 - n, as the definitions count: no integer is out of range.
 pub fn extent(x: i64) -> u64
     ensures { result ≡ extent x }
 {
@@ -24,7 +24,7 @@ pub fn to_word(x: i64) -> u64
     if x < 0 { 0u64.wrapping_sub(n + 1) } else { n }
 }
 
-// The integer of 64 bits: a negative one by a wrapping subtract.
+// The integer of 64 bits: a negative one by a wrapping subtract, a form that the project names.
 pub fn to_signed(word: u64) -> i64
     ensures { result ≡ signed 8 word }
 {

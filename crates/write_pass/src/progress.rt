@@ -58,7 +58,7 @@ impl<'a> Progress<'a> {
     }
 
     // Past one item, whose bytes go to w where they are put; `None` for a blank, which leaves the loop's variables where they are
-    // (docs/COST.md has what that saves).
+    // (docs/COST.md has what that saves). The flag and the place in the buffer stand beside it as in emit.
     pub fn advance(
         self,
         op: ValidOp,
