@@ -34,7 +34,7 @@ fn plain(e: u8) -> Op
 }
 
 // What the option with the packed entry e does, with the operand n.
-fn op_of(e: u8, n: u64) -> Op
+pub fn op_of(e: u8, n: u64) -> Op
     ensures { result ≡ op_at e n }
 {
     if e < FIXED_END {
