@@ -7,6 +7,7 @@ use std::io::Read;
 
 // Reads until what follows can't change the answer, the input ends or a read fails; what was read. A read takes what there is, so how far
 // the buffer is filled is counted, and the loop has no range to go over.
+// Not conformance's read_full: this one ends where an answer stands, and where a read fails.
 fn read_line<'b>(reader: &mut impl Read, input: &'b mut [u8]) -> &'b [u8] {
     let mut n = 0;
     while !is_settled(&input[..n]) {
@@ -19,7 +20,7 @@ fn read_line<'b>(reader: &mut impl Read, input: &'b mut [u8]) -> &'b [u8] {
 }
 
 fn main(rt: HostRuntime) -> io::Result<()> {
-    // One byte more than the longest format, so that a full buffer is settled.
+    // One byte more than the longest format, so that a full buffer is settled; of fixed size, since nothing is allocated.
     let mut input = [0u8; 4097];
     print!(rt; "{}", answer_to(read_line(&mut rt.stdin(), &mut input)))
 }
