@@ -71,8 +71,8 @@ pub fn further(s: State, n: u64) -> State
     state(s.big, s.limit, s.length + n)
 }
 
-// Whether n is a power of two of 1 to 16: one that has no bit in common with n - 1. By this test, and not std's count of bits, the compiler
-// knows that a remainder by n is a mask.
+// Whether n is a power of two of 1 to 16: one that has no bit in common with n - 1, the test by which the compiler makes a mask of the
+// remainder in `padding`.
 #[tactic(auto, using(crate::proofs::Powers::power_mask, crate::proofs::Powers::power_none))]
 pub fn is_power(n: u64) -> bool
     ensures { result ≡ is_power n }
