@@ -1,17 +1,18 @@
 -- The first pair, check by check: its least is above its greatest, its greatest is too long, or it is taken.
-use Prim.Native.Nat.{ℕ, ◌+◌, ◌-◌, ◌≤◌, ◌<◌}
+use Rattle.std.proofs.Common.{slice_index_or}
+use Prim.Native.Nat.{ℕ, ◌+◌, ◌-◌, ◌*◌, ◌≤◌, ◌<◌}
 use native.Mathlib.Nat.{add_comm}
 use native.Mathlib.Omega.{arith}
-use mathlib.Core.Path.{◌≡◌, refl, sym}
+use mathlib.Core.Path.{◌≡◌, refl}
 use mathlib.Core.Bool.{Bool, true, false}
-use mathlib.Core.List.{List}
+use mathlib.Core.List.{List, [], ◌∷◌}
 use lib.Dec.{leb}
 use lib.ListN.{length, take, drop, length-drop}
 use lib.Seq.{take_all}
 use borrow.Author.Tests.{le-leb, lt-leb}
 use Rattle.definition.specs.Answers.{Checked, refused, accepted, ◌>>=◌}
+use Rattle.definition.specs.Bytes.{total}
 use Rattle.definition.specs.Lists.{big_total}
-use Rattle.values.specs.Loading.{Loaded}
 use Rattle.definition.specs.declared.Field.TheVariants.{ZeroEnded}
 use Rattle.lengths.specs.Lengths.{range, pair_for, extents}
 use Rattle.lengths.specs.declared.Range.{Range}
@@ -24,8 +25,17 @@ pub record Pair (p : List ℕ) (a b : ℕ) : Type 0 where
   pub greatest : big_total (take 2 (drop 2 p)) ≡ b
   pub below : b < 65536
 
-pub pair : (p : List ℕ) (a b : ℕ) → 4 ≤ length p → Loaded p 0 2 a → Loaded p 2 2 b → Pair p a b
-pair p a b h x y = record { there = le-leb 4 (length p) h; least = sym x.is; greatest = sym y.is; below = y.below }
+-- the two bytes from i on, as a length
+abbrev pub word_at : List ℕ → ℕ → ℕ
+word_at p i = slice_index_or p i 0 * 256 + slice_index_or p (i + 1) 0
+
+pub pair : (p : List ℕ) {a b : ℕ} → 4 ≤ length p → a ≡ word_at p 0 → b ≡ word_at p 2 → b < 65536 → Pair p a b
+unfolding total
+pair [] h x y l = absurd (omega arith)
+pair (a ∷ []) h x y l = absurd (omega arith)
+pair (a ∷ b ∷ []) h x y l = absurd (omega arith)
+pair (a ∷ b ∷ c ∷ []) h x y l = absurd (omega arith)
+pair (a ∷ b ∷ c ∷ d ∷ p) h x y l = record { there = le-leb 4 (length (a ∷ b ∷ c ∷ d ∷ p)) h; least = omega (arith, x); greatest = omega (arith, y); below = l }
 
 module _ {p : List ℕ} {a b : ℕ} (q : Pair p a b) (k : ℕ) (holds : ℕ → Bool) where
   pub falls : b < a → refused 27 ≡ text_extents holds k p

@@ -13,7 +13,6 @@ use definition::{Field, Op, Refusal, State};
 use format::walk::try_fold;
 use items::{Size, ValidField, ValidOp};
 use lengths::Range;
-use load::get_word;
 use options::{OptionTable, table};
 
 // Between items: the state with the greatest length, the least length, and the pairs left.
@@ -26,9 +25,7 @@ struct Place<'a> {
     ghost ordered: { least ≤ greatest.length },
 }
 
-// The bytes of a length, and of a pair of them.
-const LENGTH: usize = 2;
-
+// The bytes of a pair of lengths.
 const PAIR: usize = 4;
 
 // The greatest length that a pair can say.
@@ -40,11 +37,11 @@ fn text_extents(pairs: &[u8], beside: u64, most: u64) -> Result<(Range, &[u8]), 
     requires { beside ≤ 16 }
     ensures { (holds : ℕ → Bool) → ((m : ℕ) → m < 65536 → holds m ≡ leb m most) → answer_by left_of result ≡ text_extents holds beside pairs.now }
 {
-    if pairs.len() < PAIR {
+    let [a, b, c, d, rest @ ..] = pairs else {
         return Err(Refusal::NoValueLeft);
-    }
-    let least = get_word(&pairs[0..LENGTH], true);
-    let greatest = get_word(&pairs[LENGTH..PAIR], true);
+    };
+    let least = u64::from(u16::from_be_bytes([*a, *b]));
+    let greatest = u64::from(u16::from_be_bytes([*c, *d]));
     if greatest < least {
         return Err(Refusal::LeastAboveGreatest);
     }
@@ -55,7 +52,7 @@ fn text_extents(pairs: &[u8], beside: u64, most: u64) -> Result<(Range, &[u8]), 
         least: beside + least,
         greatest: beside + greatest,
     };
-    Ok((bytes, &pairs[PAIR..]))
+    Ok((bytes, rest))
 }
 
 // The longest text, of those that a pair can say, that a length of size bytes can hold.
