@@ -11,7 +11,8 @@ ghost use Rattle.word.specs.Words.{fill_of};
 
 use store::{put as put_integer, put_copy, put_zeros};
 
-// The byte above a word's eight.
+// The byte above a word's eight: sign_byte of words, of the bits and not of the integer. sign_byte(to_signed(word)) is the same machine code
+// and needs 26 lines of proof, where this one needs none.
 fn fill(word: u64) -> u8
     ensures { result ≡ fill_of word }
 {
