@@ -8,7 +8,7 @@ use lib.Dec.{eqb, ltb, leb-suc-suc}
 use lib.ListN.{length, take, drop, length-drop}
 use lib.Seq.{length-take-le, take_all, drop-drop}
 use borrow.Author.Tests.{le-leb, lt-leb, lt-ltb}
-use Rattle.std.specs.Prelude.{Option, Some, None, Ok, Err, ◌==◌, position}
+use Rattle.std.specs.Prelude.{Option, Some, None, Result, Ok, Err, ◌==◌, position}
 use Rattle.std.specs.List.{position_or_len}
 use Rattle.std.proofs.lemmas.List.Quantifiers.{position-Some}
 use Rattle.definition.specs.Answers.{Checked, refused, accepted, ◌>>=◌}
@@ -21,7 +21,7 @@ use Rattle.definition.specs.Refusals.{refusal_number}
 use Rattle.definition.specs.declared.Field.TheVariants as Field
 use Rattle.load.specs.Numbers.{unsigned_at}
 use Rattle.load.proofs.Parts.{unsigned_part}
-use Rattle.decode.specs.Readings.{from, Decodes}
+use Rattle.decode.specs.Readings.{from, Decodes, TextOf}
 use Rattle.decode.specs.declared.Reading.TheVariants.{Text}
 use Rattle.decode.specs.declared.Decoded.{Decoded}
 use Rattle.decode.specs.Rests.{split, past}
@@ -48,13 +48,17 @@ module _ (d : List ℕ) (at : Offset) (n : ℕ) (o : Bool) where
   unfolding decode
   chars_ended e = record { says = rw (past_refused d at n e); inside = tt }
 
-  pub chars_long : at.0 + n ≤ length d → 65535 < n → Decodes d at o (Field.Chars n) (Err Refusal.TextAbove65535)
+  chars_long : at.0 + n ≤ length d → 65535 < n → Decodes d at o (Field.Chars n) (Err Refusal.TextAbove65535)
   unfolding decode
   chars_long h l = record { says = rw (first_is n at.0 d h, long_is n at.0 d h l); inside = tt }
 
-  pub chars_read : at.0 + n ≤ length d → (l : n ≤ 65535) → Decodes d at o (Field.Chars n) (Ok (record { reading = Text (record { start = at; size = n; short = l }); size = n }))
+  chars_read : at.0 + n ≤ length d → (l : n ≤ 65535) → Decodes d at o (Field.Chars n) (Ok (record { reading = Text (record { start = at; size = n; short = l }); size = n }))
   unfolding decode
   chars_read h l = record { says = rw (first_is n at.0 d h, short_is n at.0 d h l); inside = (h, h) }
+
+  pub chars_by : at.0 + n ≤ length d → {r : Result Decoded Refusal} → TextOf at n n r → Decodes d at o (Field.Chars n) r
+  chars_by h {r = Ok x} t = rw t.is (chars_read h t.fits)
+  chars_by h {r = Err e} t = rw t.1 (chars_long h t.0)
 
 -- ---- z
 
@@ -107,15 +111,19 @@ module _ (d : List ℕ) (at : Offset) (o : Bool) where
     before_zero : up_to_zero (from d at) ≡ accepted (take n (from d at))
     before_zero = zero_is (from d at) ∙ ap (up_to (from d at)) (rw rest_is at e)
 
-    pub zero_long : 65535 < n → Decodes d at o Field.ZeroEnded (Err Refusal.TextAbove65535)
+    zero_long : 65535 < n → Decodes d at o Field.ZeroEnded (Err Refusal.TextAbove65535)
     unfolding decode
     zero_long l = record { says = rw (before_zero, long_is n at.0 d (omega (arith, below)) l); inside = tt }
 
-    pub zero_read : (l : n ≤ 65535) → Decodes d at o Field.ZeroEnded (Ok (record { reading = Text (record { start = at; size = n; short = l }); size = n + 1 }))
+    zero_read : (l : n ≤ 65535) → Decodes d at o Field.ZeroEnded (Ok (record { reading = Text (record { start = at; size = n; short = l }); size = n + 1 }))
     unfolding decode
     zero_read l =
         let h : at.0 + n ≤ length d = omega (arith, below) in
         record { says = rw (before_zero, short_is n at.0 d h l, part_length n at.0 d h); inside = (h, omega (arith, below)) }
+
+    pub zero_by : {r : Result Decoded Refusal} → TextOf at n (n + 1) r → Decodes d at o Field.ZeroEnded r
+    zero_by {r = Ok x} t = rw t.is (zero_read t.fits)
+    zero_by {r = Err e} t = rw t.1 (zero_long t.0)
 
 -- ---- s: a length of n bytes, and the text of k bytes behind it
 

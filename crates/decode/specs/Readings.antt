@@ -1,10 +1,11 @@
 -- What a field's bytes give, in the definition's terms.
-use Rattle.std.specs.Prelude.{ℕ, ◌+◌, ◌≤◌, ◌≡◌, Bool, List, length, take, drop, Result, IfOk}
+use Rattle.std.specs.Prelude.{ℕ, ◌+◌, ◌≤◌, ◌<◌, ◌≡◌, Bool, List, length, take, drop, Result, Ok, Err, IfOk}
 use Rattle.definition.specs.Refusals.{answer_by}
 use Rattle.definition.specs.Values.{Value, integer, float, text}
 use Rattle.definition.specs.Fields.{decode}
 use Rattle.definition.specs.declared.Offset.{Offset}
 use Rattle.definition.specs.declared.Refusal.{Refusal}
+use Rattle.definition.specs.declared.Refusal.TheVariants.{TextAbove65535}
 use Rattle.definition.specs.declared.Field.{Field}
 use Rattle.decode.specs.declared.Reading.{Reading}
 use Rattle.decode.specs.declared.Reading.TheVariants.{Integer, Float, Text}
@@ -41,3 +42,15 @@ decoded_in d x = (value_of d x.reading, x.size)
 pub record Decodes (d : List ℕ) (at : Offset) (big : Bool) (f : Field) (r : Result Decoded Refusal) : Type 0 where
   pub says : answer_by (decoded_in d) r ≡ decode big f (from d at)
   pub inside : IfOk r (λ x. Inside d x.reading × (at.0 + x.size ≤ length d))
+
+-- ---- texts
+
+-- x is the text of n bytes from an offset, where m bytes are read
+pub record TextIs (at : Offset) (n m : ℕ) (x : Decoded) : Type 0 where
+  pub fits : n ≤ 65535
+  pub is : x ≡ record { reading = Text (record { start = at; size = n; short = fits }); size = m }
+
+-- what the code answers: the text, or the refusal of a longer one
+abbrev pub TextOf : Offset → ℕ → ℕ → Result Decoded Refusal → Type 0
+TextOf at n m (Ok x) = TextIs at n m x
+TextOf at n m (Err e) = (65535 < n) × (e ≡ TextAbove65535)

@@ -3,12 +3,12 @@
 
 ghost use Rattle.std.specs.Prelude.{◌≡◌, Bool, ◌==◌, position};
 ghost use Rattle.definition.specs.declared.Field.TheVariants as field;
-ghost use Rattle.decode.specs.Readings.{Decodes};
+ghost use Rattle.decode.specs.Readings.{Decodes, TextOf};
 
 pub mod rest;
 pub mod span;
 
-use definition::{Kind, Refusal};
+use definition::{Kind, Offset, Refusal};
 use items::Number;
 use load::{get_signed, get_unsigned, get_word};
 use rest::Rest;
@@ -54,21 +54,25 @@ pub fn number(rest: Rest, big: bool, number: Number) -> Result<Decoded, Refusal>
     Ok(Decoded { reading, size })
 }
 
+// A text of n bytes from an offset, where so many bytes are read: 20.
+fn text_of(start: Offset, n: u64, size: u64) -> Result<Decoded, Refusal>
+    ensures { TextOf start n size result }
+{
+    if MAX_TEXT < n {
+        return Err(Refusal::TextAbove65535);
+    }
+    Ok(Decoded {
+        reading: Reading::Text(Span { start, size: n }),
+        size,
+    })
+}
+
 // c: a text of n bytes.
 pub fn text(rest: Rest, n: u64) -> Result<Decoded, Refusal>
     ensures { (o : Bool) → Decodes rest.entry.data.now rest.entry.at o (field.Chars n) result }
 {
     rest.past(n)?;
-    if MAX_TEXT < n {
-        return Err(Refusal::TextAbove65535);
-    }
-    Ok(Decoded {
-        reading: Reading::Text(Span {
-            start: rest.at,
-            size: n,
-        }),
-        size: n,
-    })
+    text_of(rest.at, n, n)
 }
 
 // The index of the first zero.
@@ -83,16 +87,7 @@ pub fn zero_ended(rest: Rest) -> Result<Decoded, Refusal>
     ensures { (o : Bool) → Decodes rest.entry.data.now rest.entry.at o field.ZeroEnded result }
 {
     let n = first_zero(&rest.data[rest.at.0 as usize..]).ok_or(Refusal::MissingZero)? as u64;
-    if MAX_TEXT < n {
-        return Err(Refusal::TextAbove65535);
-    }
-    Ok(Decoded {
-        reading: Reading::Text(Span {
-            start: rest.at,
-            size: n,
-        }),
-        size: n + 1,
-    })
+    text_of(rest.at, n, n + 1)
 }
 
 // s: a length of so many bytes, then its text.

@@ -2,7 +2,7 @@
 use mathlib.Core.Path.{sym, ◌∙◌}
 use Rattle.laws.proofs.Exits.{exit_is}
 use Rattle.decode.proofs.Numbers.{none_of}
-use Rattle.decode.proofs.Texts.{zero_missing, zero_long, zero_read}
+use Rattle.decode.proofs.Texts.{zero_missing, zero_by}
 use Rattle.decode.proofs.zero_ended.Goals as goal
 
 pub returns-in_err-n : goal.returns-in_err-n
@@ -10,8 +10,5 @@ returns-in_err-n c = λ o.
     let n = none_of c.in_err-n.ensures.value in
     rw (exit_is c.from_residual.ensures.1, n.1) (zero_missing c.args.rest.data.now c.args.rest.at o (sym c.first_zero.ensures ∙ n.0))
 
-pub returns-then-n-gt-MAX_TEXT : goal.returns-then-n-gt-MAX_TEXT
-returns-then-n-gt-MAX_TEXT c = λ o. zero_long c.args.rest.data.now c.args.rest.at o _ (sym c.first_zero.ensures ∙ c.in_ok-n.ensures.ok_part) c.if-n-gt-MAX_TEXT.true
-
 pub returns : goal.returns
-returns c = λ o. zero_read c.args.rest.data.now c.args.rest.at o _ (sym c.first_zero.ensures ∙ c.in_ok-n.ensures.ok_part) _
+returns c = λ o. zero_by c.args.rest.data.now c.args.rest.at o _ (sym c.first_zero.ensures ∙ c.in_ok-n.ensures.ok_part) c.text_of.ensures
