@@ -23,7 +23,7 @@ mod vector;
 use align::start;
 use definition::State;
 use input::read_full;
-use parts::room_for_input;
+use parts::room;
 use profile::print_profile;
 use show::print_line;
 use std::io;
@@ -37,7 +37,8 @@ enum Group<'a> {
 }
 
 impl<'a> Group<'a> {
-    // The group that a heading begins; its line is written if it is one of profiles.
+    // The group that a heading begins; its line is written if it is one of profiles. The letters stand here alone,
+    // as those of vector.rt, and a Case says what they mean.
     fn begun(rt: &impl Print, heading: &'a [u8]) -> io::Result<Group<'a>> {
         match heading {
             [b'#', b'v', b' ', name @ ..] => Ok(Group::Cases(Tally::new(Case::Vector, name))),
@@ -79,6 +80,6 @@ fn run(rt: &impl Print, text: &[u8]) -> io::Result<()> {
 }
 
 fn main(rt: HostRuntime) -> io::Result<()> {
-    let mut input = room_for_input();
+    let mut input = room::<1048576>(0);
     run(&rt, read_full(&mut rt.reader(), &mut input)?)
 }

@@ -43,16 +43,12 @@ impl<'b> Filled<'b> {
     }
 }
 
-// A long buffer, every byte of it the same.
-pub fn room(fill: u8) -> [u8; 70000]
-    ensures { 70000 ≡ length result }
-{
-    [fill; 70000]
-}
+// How many bytes a long buffer has.
+pub const LONG: usize = 70000;
 
-// Room for the whole input.
-pub fn room_for_input() -> [u8; 1048576]
-    ensures { 1048576 ≡ length result }
+// A buffer, every byte of it the same.
+pub fn room<const N: usize>(fill: u8) -> [u8; N]
+    ensures { N ≡ length result }
 {
-    [0; 1048576]
+    [fill; N]
 }

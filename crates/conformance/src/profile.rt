@@ -8,7 +8,7 @@
 //   state / BIG / LIMIT / LENGTH       sets that state
 //   any ALPHABET / SEED / COUNT        so many random formats of 4,096 bytes, through every call
 // The numbers at the end may be missing: a long buffer, start 1.
-use crate::parts::{FILL, is_unchanged, room, split};
+use crate::parts::{FILL, LONG, is_unchanged, room, split};
 use crate::random::random;
 use crate::reader::{Arguments, number, take_arguments, word_of};
 use crate::show::{print_bytes, print_list};
@@ -94,20 +94,20 @@ fn print_read(rt: &impl Print, answer: Result<Unpacked, Refusal>, out: &[u8]) ->
 
 // The first bytes of a buffer, as many as a text says.
 fn lent<'b>(text: &[u8], out: &'b mut [u8]) -> &'b mut [u8] {
-    let (size, _) = number(text, b'/', 70000);
+    let (size, _) = number(text, b'/', LONG as u64);
     let n = out.len().min(size as usize);
     &mut out[..n]
 }
 
 fn write(rt: &impl Print, a: Arguments<'_, '_>) -> io::Result<()> {
-    let mut out = room(FILL);
+    let mut out = room::<LONG>(FILL);
     let answer = string_pack(a.format, a.list, lent(a.behind, &mut out));
     print_written(rt, answer, &out)
 }
 
 fn read(rt: &impl Print, a: Arguments<'_, '_>) -> io::Result<()> {
     let (start, behind) = number(a.behind, b'/', 1);
-    let mut out = room(FILL);
+    let mut out = room::<LONG>(FILL);
     let answer = string_unpack(
         a.format,
         a.list,
@@ -133,7 +133,7 @@ fn print_continued(rt: &impl Print, c: Continued) -> io::Result<()> {
 
 // Continued writing from a state; the next one.
 fn continued(rt: &impl Print, a: Arguments<'_, '_>, state: State) -> io::Result<State> {
-    let mut out = room(FILL);
+    let mut out = room::<LONG>(FILL);
     let answer = pack_continued(state, a.format, a.list, &mut out);
     print_written(rt, answer.map(|c| c.written), &out)?;
     let Ok(c) = answer else {
@@ -175,8 +175,8 @@ pub fn print_profile(rt: &impl Print, line: &[u8], state: State) -> io::Result<S
     rt.write_all(line)?;
     let (_, behind) = word_of(line);
     let (call, text) = word_of(behind);
-    let mut format = room(0);
-    let mut list = room(0);
+    let mut format = room::<LONG>(0);
+    let mut list = room::<LONG>(0);
     let a = take_arguments(text, &mut format, &mut list);
     let next = answered(rt, call, a, state)?;
     println!(rt)?;

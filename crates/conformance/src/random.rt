@@ -1,5 +1,5 @@
-// Formats of 4,096 random bytes, through every call.
-use crate::parts::{FILL, Filled, is_unchanged, room, split};
+// Formats of 4,096 random bytes, through every call. The buffers have fixed sizes, since nothing is allocated.
+use crate::parts::{FILL, Filled, LONG, is_unchanged, room, split};
 use crate::reader::number;
 use bound::list_bound;
 use definition::Refusal;
@@ -51,7 +51,7 @@ fn draw(alphabet: &[u8], random: &mut Xorshift, format: &mut [u8], list: &mut Fi
 
 // Whether a list writes a record.
 fn writes(format: &[u8], list: &[u8], record: &[u8]) -> bool {
-    let mut out = room(FILL);
+    let mut out = room::<LONG>(FILL);
     match string_pack(format, list, &mut out) {
         Ok(n) => split(&out, n).0 == record,
         Err(_) => false,
@@ -61,7 +61,7 @@ fn writes(format: &[u8], list: &[u8], record: &[u8]) -> bool {
 // How many bytes reading data from its start takes. None where the list is not within the bound, does not write again what was
 // read, or a byte behind it changed.
 fn taken(format: &[u8], data: &[u8]) -> Option<Result<u64, Refusal>> {
-    let mut out = room(FILL);
+    let mut out = room::<LONG>(FILL);
     match string_unpack(format, data, 1, &mut out) {
         Ok(unpacked) => {
             let (list, left) = split(&out, unpacked.length);
@@ -76,20 +76,21 @@ fn taken(format: &[u8], data: &[u8]) -> Option<Result<u64, Refusal>> {
 
 // Whether reading zeros is right.
 fn reads_zeros(format: &[u8]) -> bool {
-    let data = room(0);
+    let data = room::<LONG>(0);
     taken(format, &data).is_some()
 }
 
 // Whether the other calls agree with what writing and measuring answered. A format that writing refuses with k is refused
 // so by the bound, and by measuring unless a text comes before: the numbers up to 8 are about the format alone. A record is
-// as long as is measured, and read to its end.
+// as long as is measured, and read to its end. The number is compared, and no case listed: refusals above 8 are those of
+// values and data.
 fn agrees(
     format: &[u8],
     record: &[u8],
     written: Result<u64, Refusal>,
     measured: Result<u64, Refusal>,
 ) -> bool {
-    let bound = list_bound(format, 70000);
+    let bound = list_bound(format, LONG as u64);
     let fits = measured == written || measured == Err(Refusal::NoFixedSize);
     match written {
         Ok(n) => bound.is_ok() && fits && taken(format, record) == Some(Ok(n)),
@@ -106,7 +107,7 @@ struct Trial {
 }
 
 fn tried(format: &[u8], list: &[u8]) -> Trial {
-    let mut out = room(FILL);
+    let mut out = room::<LONG>(FILL);
     let written = string_pack(format, list, &mut out);
     let measured = string_packsize(format);
     let (record, left) = split(&out, written.unwrap_or(0));
@@ -137,7 +138,7 @@ fn try_all(alphabet: &[u8], seed: u64, count: u64) -> Counts {
     };
     for _ in 0..count {
         let mut format = [0u8; 4096];
-        let mut buffer = room(0);
+        let mut buffer = room::<LONG>(0);
         let mut list = Filled::new(&mut buffer);
         draw(alphabet, &mut random, &mut format, &mut list);
         let trial = tried(&format, list.bytes());

@@ -37,7 +37,7 @@ pub fn word_of(text: &[u8]) -> (&[u8], &[u8]) {
     (word, after_one(behind))
 }
 
-// A hexadecimal digit, in upper case.
+// A hexadecimal digit, in upper case; std's to_digit takes small letters too.
 fn digit(b: u8) -> Option<u8>
     ensures { IfSome result (λ d. d < 16) }
 {
@@ -53,13 +53,15 @@ fn integer(text: &[u8]) -> (u64, &[u8])
     ensures { length result.1.now ≤ length text.now }
 {
     if let [b'-', rest @ ..] = text {
-        let (n, behind) = natural(rest);
+        let (n, behind) = decimal(rest);
         return (n.wrapping_neg(), behind);
     }
-    natural(text)
+    decimal(text)
 }
 
-fn natural(text: &[u8]) -> (u64, &[u8])
+// Not by parse, which refuses what has more than 64 bits. A digit's byte modulo 16 is the digit; a difference from b'0' would ask for
+// a clause that the byte is a digit.
+fn decimal(text: &[u8]) -> (u64, &[u8])
     ensures { length result.1.now ≤ length text.now }
 {
     let (digits, behind) = split_while(text, |b| b.is_ascii_digit());

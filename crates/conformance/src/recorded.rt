@@ -5,7 +5,7 @@
 //   t FORMAT / RUN = TRAY                    a tray
 //   l FORMAT / PAIRS = LEAST / GREATEST      a range of lengths
 // A refusal has ! in place of = and what follows it; behind that of a tray stands / PLACE, and behind that of a range its
-// number. `compare/run record FILE` makes the lines.
+// number. `compare/run record FILE` makes the lines. The buffers have fixed sizes, since nothing is allocated.
 use crate::parts::FILL;
 use crate::reader::{bytes, number, take_arguments};
 use definition::{Refusal, Unpacked};
@@ -16,7 +16,7 @@ use read::string_unpack;
 use tray::{TrayRefusal, pack_tray};
 use write::string_pack;
 
-// What writing, a tray or reading answers: a length, and the next position of reading, 0 of the others.
+// What writing, a tray or reading answers: a length, and the next position of reading, or 0, as has_number takes a missing mark.
 #[derive(Clone, Copy)]
 struct Answer {
     length: u64,
@@ -38,7 +38,7 @@ impl From<Unpacked> for Answer {
     }
 }
 
-// Whether a number stands behind a mark, and ends the line; 0 where there is no mark.
+// Whether a number stands behind a mark, and ends the line; 0 where there is no mark. The mark is a byte, as in number.
 fn has_number(text: &[u8], mark: u8, x: u64) -> bool {
     let (n, behind) = number(text, mark, 0);
     n == x && behind.is_empty()

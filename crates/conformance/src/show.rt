@@ -8,7 +8,8 @@ pub fn print_line(rt: &impl Print, line: &[u8]) -> io::Result<()> {
     println!(rt)
 }
 
-// Bytes in hexadecimal; more than eight that are the same by their number.
+// Bytes in hexadecimal; more than eight that are the same by their number. Functions that print, and no type with a Display: bytes are
+// printed at two places and a list at one, so a wrapper and its impl would be longer.
 pub fn print_bytes(rt: &impl Print, bytes: &[u8]) -> io::Result<()> {
     bytes
         .chunk_by(|a, b| a == b)
@@ -38,6 +39,7 @@ fn print_field(rt: &impl Print, field: &[u8]) -> io::Result<()> {
     print_bytes(rt, field)
 }
 
+// The fields of a value list. The crate values takes one apart by a function of its own; a list that is cut off ends here.
 pub fn print_list(rt: &impl Print, list: &[u8]) -> io::Result<()> {
     let mut left = list;
     while let [_, high, low, ..] = left {

@@ -4,7 +4,7 @@ use crate::show::print_line;
 use crate::vector::is_held;
 use std::io;
 
-// What a line of a group is.
+// What a line of a group is. An enum: a heading makes it, and a function pointer or a boxed closure may not be handed out.
 #[derive(Clone, Copy)]
 pub enum Case {
     Vector,

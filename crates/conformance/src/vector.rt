@@ -15,7 +15,7 @@ use words::sign_byte;
 pub struct Vector<'d> {
     pub size: usize,
     pub big: bool,
-    // An answer is expected, and no refusal.
+    // An answer is expected, and no refusal. A flag: which of the words is the answer, the letter says.
     pub answers: bool,
     // The word, and the 16 bytes after it, also as two words.
     pub a: u64,
@@ -38,7 +38,7 @@ impl<'d> Vector<'d> {
     }
 }
 
-// The vector of an order, a sign and the numbers behind them.
+// The vector of an order, a sign and the numbers behind them. The two marks are compared here and not kept.
 fn vector_of(order: u8, sign: u8, numbers: &[u8]) -> Option<Vector<'_>> {
     let (size, words) = numbers.split_first()?;
     let (a, data) = words.split_first_chunk::<8>()?;
@@ -80,7 +80,7 @@ fn holds(letter: u8, v: Vector<'_>) -> bool {
     }
 }
 
-// Whether a line's vector holds.
+// Whether a line's vector holds. The buffer has a fixed size, since nothing is allocated.
 pub fn is_held(line: &[u8]) -> bool {
     let [letter, _, order, _, sign, _, numbers @ ..] = line else {
         return false;
