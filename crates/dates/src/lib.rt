@@ -25,8 +25,8 @@ fn is_leap(year: u64) -> bool
     year % 4 == 0 && (year % 100 != 0 || year % 400 == 0)
 }
 
-// The days of a month: the long ones are odd to July, and even from August on. The bounds of a month stand at two functions that take
-// one: a type for them would be made of a date's month at each call.
+// The days of a month: the long ones are odd to July, and even from August on. The bounds of a month stand in five contracts, here, at
+// days_before_month and months_on, in Later and in InYear: a type for them would be made of a date's month at each call.
 #[tactic(auto, using(crate::proofs::Closed::lengths_are), unfolding(calendar::specs::Calendar::month_length))]
 fn month_length(year: u64, month: u64) -> u64
     requires { (1 ≤ month) × (month ≤ 12) }
