@@ -223,10 +223,7 @@ pub fn date_of(day: i64) -> Result<Date, Refusal>
     if day < 0 {
         return Err(Refusal::NoSuchDate);
     }
-    let n = extent(day);
-    if MAX_DAY < n {
-        return Err(Refusal::DayTooLarge);
-    }
+    let n = in_two_bytes(extent(day))?;
     Ok(date_after(n))
 }
 
