@@ -220,10 +220,10 @@ pub fn day_number(year: i64, month: i64, day: i64) -> Result<u64, Refusal>
 pub fn date_of(day: i64) -> Result<Date, Refusal>
     ensures { answer_of result ≡ date_of day }
 {
-    if day < 0 {
+    let Ok(day) = u64::try_from(day) else {
         return Err(Refusal::NoSuchDate);
-    }
-    let n = in_two_bytes(extent(day))?;
+    };
+    let n = in_two_bytes(day)?;
     Ok(date_after(n))
 }
 
