@@ -200,6 +200,7 @@ fn number_of(d: Date) -> Result<u64, Refusal>
 pub fn day_number(year: i64, month: i64, day: i64) -> Result<u64, Refusal>
     ensures { answer_of result ≡ day_number year month day }
 {
+    // Here and in last_day the bounds are above 0, so try_from would be a refusal more beside each test.
     if year < 2000 {
         return Err(Refusal::NoSuchDate);
     }
