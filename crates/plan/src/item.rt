@@ -165,7 +165,7 @@ fn padding_of(place: Place, f: ValidField) -> Result<u64, Refusal>
 }
 
 // A field: 6, then by its option. Each is padded by itself, so that the compiler knows in each case which natural alignment it
-// has, and goes on from there to that option's checks: one padding before the match makes writing cost a tenth more.
+// has, and goes on from there to that option's checks: one padding before the match makes writing cost up to 30 % more.
 #[tactic(auto, using(crate::proofs::Plans::padding_lt, crate::proofs::Plans::unaligned, crate::proofs::Plans::number_valid, crate::proofs::Plans::size_within))]
 fn field(place: Place, f: ValidField) -> Result<Plan, Refusal>
     ensures { ItemAt place.entry (ops.Put f.field) result }
