@@ -38,21 +38,24 @@ put_at d w (accepted r) = paste d w (record_of r.1) (length r.1.cells)
 
 -- ---- one item
 
--- from p to q: at a state with the values vs, and so many values more
-pub record Goes (p : Progress) (s : State) (vs : List Value) (more : ℕ) (q : Progress) : Type 0 where
+-- from p to q: at an offset of the same list, in a state, with the values vs left, and so many values more
+pub record Goes (p : Progress) (s : State) (next : ℕ) (vs : List Value) (more : ℕ) (q : Progress) : Type 0 where
   pub is : place_of q.place ≡ place s vs
+  pub list : q.place.reader.list.now ≡ p.place.reader.list.now
+  pub at : q.place.reader.at ≡ next
   pub used : q.used ≡ p.used + more
 
 abbrev pub passed : Progress → State → Progress → Type 0
-passed p s q = Goes p s (left_of p.place.reader) 0 q
+passed p s q = Goes p s p.place.reader.at (left_of p.place.reader) 0 q
 
 abbrev pub taken : Progress → State → ℕ → Progress → Type 0
-taken p s next q = Goes p s (values_of (drop next (list_of p.place))) 1 q
+taken p s next q = Goes p s next (values_of (drop next (list_of p.place))) 1 q
 
 -- an item took the pass from p to q
 pub record Moved (p : Progress) (op : Op) (q : Progress) : Type 0 where
   pub out : Output
   pub is : wrote p.place op ≡ accepted (place_of q.place, out)
+  pub list : q.place.reader.list.now ≡ p.place.reader.list.now
   pub used : q.used ≡ p.used + length out.took
   pub items : out.items ≡ 1
 
