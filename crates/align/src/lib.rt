@@ -38,6 +38,14 @@ pub fn start() -> State
     state(false, 1, 0)
 }
 
+// The same state, made anew of its parts: for a loop that takes its next state from an enum, so that the parts stay in registers, where
+// a copy of the whole would go through memory.
+pub fn parts(s: State) -> State
+    ensures { result ≡ s }
+{
+    state(s.big, s.limit, s.length)
+}
+
 // The state at an offset in the data, which in reading is its length.
 pub fn at_offset(s: State, o: Offset) -> State
     ensures { result ≡ at_offset s o }

@@ -45,6 +45,11 @@ day_below (pos y) (negsuc m) (negsuc d) f t = refl
 day_below (pos y) (pos m) (negsuc d) f t = refl
 day_below year month (pos d) f t = let q : d ≡ 0 = omega (arith, ltb-true d 1 (rw (to_z-of_z f) at t)) in rw q (day_24 year month)
 
+pub number_below : (day : ℤ) → SFits w64 day → below day 0 → date_of day ≡ refused 24
+unfolding date_of
+number_below (pos n) f t = absurd (omega (arith, ltb-true n 0 (rw (to_z-of_z f) at t)))
+number_below (negsuc n) f t = refl
+
 pub months_below : (first months : ℤ) → SFits w64 months → below months 1 → last_day first months ≡ refused 26
 unfolding last_day
 months_below first (negsuc k) f t = refl

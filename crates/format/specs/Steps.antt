@@ -9,7 +9,7 @@ use Rattle.definition.specs.Ops.{op_of}
 use Rattle.definition.specs.declared.Op.{Op}
 use Rattle.format.specs.Ops.{op_at}
 use Rattle.format.specs.declared.cursor.Cursor.{Cursor}
-use Rattle.format.specs.declared.item.Item.{Item}
+use Rattle.format.specs.declared.item.ValidItem.{ValidItem}
 
 -- the first item of s, which stands at a place: what it does, and the place after it; none at the end
 unfoldable pub next_at : Table → ℕ → List ℕ → Checked (Option (Op × ℕ))
@@ -19,6 +19,6 @@ next_at t at (b ∷ s) = do
   accepted (some (o, at + 1 + length (taken t b s)))
 
 -- what the cursor's item does, and the place of the cursor after it
-abbrev pub next_of : code.Option (Item × Cursor) → Option (Op × ℕ)
+abbrev pub next_of : code.Option (ValidItem × Cursor) → Option (Op × ℕ)
 next_of None = none
-next_of (Some (i, c)) = some (op_at i.entry i.operand, c.at)
+next_of (Some (i, c)) = some (op_at i.item.entry i.item.operand, c.at)

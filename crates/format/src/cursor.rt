@@ -4,7 +4,7 @@ ghost use Rattle.definition.specs.Refusals.{answer_by};
 ghost use Rattle.options.specs.Packed.{table_at};
 ghost use Rattle.format.specs.Steps.{next_of, next_at};
 
-use crate::item::Item;
+use crate::item::{Item, ValidItem};
 use definition::Refusal;
 use operand::operand_at;
 use operand::rest::Rest;
@@ -24,7 +24,11 @@ impl Cursor {
     }
 
     // The item here and the cursor after it; none at the end of the format.
-    pub fn next(self, table: &OptionTable, format: &[u8]) -> Result<Option<(Item, Cursor)>, Refusal>
+    pub fn next(
+        self,
+        table: &OptionTable,
+        format: &[u8],
+    ) -> Result<Option<(ValidItem, Cursor)>, Refusal>
         ensures { answer_by next_of result ≡ next_at (table_at table.now.entries) self.at (drop self.at format.now) }
     {
         let Some(&b) = format.get(self.at) else {
@@ -33,9 +37,11 @@ impl Cursor {
         let entry = table.entry(b);
         let i = self.at + 1;
         let x = operand_at(table, Rest { format, at: i }, entry)?;
-        let item = Item {
-            entry,
-            operand: x.value,
+        let item = ValidItem {
+            item: Item {
+                entry,
+                operand: x.value,
+            },
         };
         Ok(Some((item, Cursor { at: i + x.taken })))
     }

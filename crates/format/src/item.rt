@@ -11,12 +11,18 @@ use options::{
     CHARS_END, COUNTED_END, FIXED_END, LIMIT_END, PLAIN_END, SIGNED_END, UNSIGNED_END, kind_of,
 };
 
-// An item: the entry of its byte, packed as the table has it (options says why), and its operand, which is one that its option takes.
+// An item: the entry of its byte, packed as the table has it (options says why), and its operand.
 #[derive(Clone, Copy)]
 pub struct Item {
     pub entry: u8,
     pub operand: u64,
-    ghost valid: { T (valid_op (op_at entry operand)) } by { T_prop (valid_op (op_at entry operand)) },
+}
+
+// An item whose operand is one that its option takes.
+#[derive(Clone, Copy)]
+pub struct ValidItem {
+    pub item: Item,
+    ghost valid: { T (valid_op (op_at item.entry item.operand)) } by { T_prop (valid_op (op_at item.entry item.operand)) },
 }
 
 // What an option does that has no operand; the numbers are those of the table in options.
@@ -63,11 +69,18 @@ pub fn op_of(e: u8, n: u64) -> Op
 
 impl Item {
     // What the item does.
-    pub fn op(self) -> ValidOp
-        ensures { result.op ≡ op_at self.entry self.operand }
+    pub fn op(self) -> Op
+        ensures { result ≡ op_at self.entry self.operand }
     {
-        ValidOp {
-            op: op_of(self.entry, self.operand),
-        }
+        op_of(self.entry, self.operand)
+    }
+}
+
+impl ValidItem {
+    // What the item does.
+    pub fn op(self) -> ValidOp
+        ensures { result.op ≡ op_at self.item.entry self.item.operand }
+    {
+        ValidOp { op: self.item.op() }
     }
 }

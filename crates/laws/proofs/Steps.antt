@@ -43,6 +43,14 @@ pub room_longer : (s : State) (n : ℕ) → Roomy s n → longer s n ≡ accepte
 unfolding longer
 room_longer s n e = rw e
 
+-- two steps on are one of both lengths
+pub longer_twice : (s : State) (p n : ℕ) → (longer s p >>= λ t. longer t n) ≡ longer s (p + n)
+unfolding longer
+longer_twice s p n =
+    cases (leb (s.length + p) (2 ^ 63 - 1))
+    (λ q. rw (q, add_assoc s.length p n))
+    (λ q. rw (q, lt-leb (s.length + (p + n)) (2 ^ 63 - 1) (omega (arith, leb-false (s.length + p) (2 ^ 63 - 1) q))))
+
 -- a sum that is counted up to 2^64-1 is too long where the whole sum is
 pub longer_capped : (s : State) (n : ℕ) → longer s (min n (2 ^ 64 - 1)) ≡ longer s n
 unfolding longer

@@ -4,18 +4,18 @@ use Rattle.std.specs.List.{AllWithin, HoldsAt}
 use Rattle.std.proofs.lemmas.Iterator.{index_from_first}
 use Prim.Native.Nat.{ℕ, ◌+◌, ◌≤◌, ◌<◌}
 use mathlib.Core.Path.{◌≡◌, refl, sym, ap, ◌∙◌}
-use mathlib.Core.Bool.{true}
+use mathlib.Core.Bool.{Bool, true}
 use mathlib.Core.List.{List, [], ◌∷◌, ◌++◌}
 use native.Mathlib.Numerals.{add-one}
 use native.Mathlib.Omega.{arith}
 use lib.Dec.{ltb, eqb}
 use lib.ListN.{length, take}
 use borrow.Table.Steps.{cases}
-use borrow.Author.Tests.{lt-leb, le-leb, ltb-true, ne_eqb}
+use borrow.Author.Tests.{lt-leb, le-leb, ltb-true, ltb-false, ne_eqb}
 use Rattle.definition.specs.Answers.{Checked, refused}
 use Rattle.definition.specs.Calls.{string_packsize}
 use Rattle.definition.specs.Program.{first_line, line, printed}
-use Rattle.line.specs.Lines.{Stands}
+use Rattle.line.specs.Lines.{settled, Stands}
 
 -- ---- the first line by its length, which is the place of the first line feed
 abbrev line_length : List ℕ → ℕ
@@ -76,3 +76,10 @@ settled_long s l e h q t =
 
 pub settled_short : (s l : List ℕ) → l ≡ first_line s → length l ≤ 4096 → ltb (length l) (length s) ≡ true → Stands s
 settled_short s l e h q t = printed_line (s ++ t) s (line_complete s t (ltb-true (length (first_line s)) (length s) (rw e at q)))
+
+-- what the two tests tell together
+told : (s : List ℕ) (r : Bool) → r ≡ settled s → r ≡ true → Stands s
+told s r q t =
+    let n = length (first_line s) in
+    cases (ltb 4096 n) (λ long. settled_long s (first_line s) refl (ltb-true 4096 n long) long)
+    (λ short. settled_short s (first_line s) refl (ltb-false 4096 n short) (rw short at (sym q ∙ t)))

@@ -37,13 +37,23 @@ fn skip_zeros(text: &[u8]) -> usize
     text.iter().position(|b| *b != b'0').unwrap_or(text.len())
 }
 
-// The place after the digits at the front.
-pub fn skip_digits(text: &[u8]) -> usize
+// The number of digits at the front.
+fn leading_digits(text: &[u8]) -> usize
     ensures { result ≡ length (digits text.now) }
 {
     text.iter()
         .position(|b| !b.is_ascii_digit())
         .unwrap_or(text.len())
+}
+
+// The place after the digits at a place; behind the text there are none.
+pub fn skip_digits(text: &[u8], at: usize) -> usize
+    ensures { result ≡ at + length (digits (drop at text.now)) }
+{
+    if text.len() <= at {
+        return at;
+    }
+    at + leading_digits(&text[at..])
 }
 
 // The number that the digit d makes, after those that made n.

@@ -44,9 +44,14 @@ unfolding natural_at next_byte
 front t [] b q h e p = let z : ◌≡◌ {A = ℕ} 0 1 = cc in absurd (omega arith)
 front t (c ∷ s) b q h e p = let i : b ≡ c = cc in rw (lt-ltb c 128 (omega arith), p ∙ ap t i)
 
+-- what is not empty has a first byte
+pub inside : (s : List ℕ) → (length s ≡ 0 → ⊥) → 0 < length s
+inside [] n = absurd (n refl)
+inside (b ∷ s) n = omega arith
+
 -- ---- by the packed number of the byte
 module _ (e : ℕ) (s : List ℕ) where
-  pub single : e ≡ 84 → (p : ℕ) → p ≡ length (digits s) → accepted (4, 1 + p) ≡ natural (entry_at e) s
+  pub single : e ≡ 84 → (p : ℕ) → p ≡ 1 + length (digits s) → accepted (4, p) ≡ natural (entry_at e) s
   unfolding entry_at
   single q p r = rw (q, r, one-add)
 

@@ -10,7 +10,7 @@ ghost use Rattle.definition.specs.Refusals.{answer_of, answer_by};
 ghost use Rattle.options.specs.Packed.{entry_at, table_at};
 ghost use Rattle.operand.specs.Operands.{operand_by, operand_at, natural_at, shown_at, pair_of, behind_of, NumeralBehind};
 
-mod numbered;
+pub mod numbered;
 pub mod rest;
 
 use crate::numbered::Numbered;
@@ -32,7 +32,7 @@ pub struct Operand {
 
 // What X takes: the alignment and how many bytes; or an option whose size with its numeral is the alignment.
 #[derive(Clone, Copy)]
-enum Behind {
+pub enum Behind {
     By(Operand),
     Numeral(Numbered),
 }
@@ -120,7 +120,7 @@ fn behind_x(table: &OptionTable, rest: &[u8]) -> Result<Behind, Refusal>
     if e == SINGLE {
         return Ok(Behind::By(Operand {
             value: 4,
-            taken: 1 + skip_digits(&rest[1..]),
+            taken: skip_digits(rest, 1),
         }));
     }
     if e < FIXED_END {

@@ -6,7 +6,7 @@ use mathlib.Core.List.{List, [], ◌∷◌, ◌++◌, map, map-append}
 use lib.Dec.{T}
 use lib.ListN.{length, replicate, length-append, length-replicate, length-map}
 use lib.Seq.{paste, paste-zero}
-use Rattle.definition.specs.Answers.{accepted}
+use Rattle.definition.specs.Answers.{Checked, accepted}
 use Rattle.definition.specs.Values.{Value}
 use Rattle.definition.specs.Writing.{pad, byte, pads, zeroed, Output, output, Place, place}
 use Rattle.definition.specs.declared.State.{State}
@@ -52,11 +52,12 @@ module _ {at : code.Place} {op : Op} (put : Bool) (d : List ℕ) (w : ℕ) where
       let is = ap (put_at d w) v.is ∙ ap (λ (x : List ℕ). paste d w x (length (pads n))) (zeros_bytes n) ∙ ap (paste d w (replicate n 0)) (length-replicate n pad) in
       e ∙ ap (λ (x : List ℕ). cond put x d) (sym is)
 
+-- a buffer that what is put leaves as it is stays so, whether it is put or not
+pub unchanged_put : (put : Bool) (d : List ℕ) (w : ℕ) (c : Checked (Place Value × Output)) → put_at d w c ≡ d → d ≡ cond put (put_at d w c) d
+unchanged_put true d w c e = sym e
+unchanged_put false d w c e = refl
+
 -- an item that puts nothing
 module _ (at : code.Place) (op : Op) (put : Bool) (d : List ℕ) (w : ℕ) where
   pub nothing_put : {s : Place Value} {n : ℕ} → wrote at op ≡ accepted (s, output [] [] n) → d ≡ cond put (put_at d w (wrote at op)) d
-  nothing_put e = go put (ap (put_at d w) e ∙ sym (paste-zero d w []))
-    where
-      go : (put : Bool) → put_at d w (wrote at op) ≡ d → d ≡ cond put (put_at d w (wrote at op)) d
-      go true e = sym e
-      go false e = refl
+  nothing_put e = unchanged_put put d w (wrote at op) (ap (put_at d w) e ∙ sym (paste-zero d w []))

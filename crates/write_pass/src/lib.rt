@@ -1,7 +1,7 @@
 // A pass over a format: every check, the totals, and where it is asked for, the record.
 #![tactic(auto)]
 
-mod progress;
+pub mod progress;
 
 ghost use Rattle.std.specs.Prelude.{◌≡◌, true, cond, length};
 ghost use Rattle.definition.specs.Refusals.{answer_of};

@@ -10,7 +10,7 @@ use Rattle.definition.specs.declared.Refusal.{Refusal}
 use Rattle.options.specs.Packed.{table_at}
 use Rattle.format.specs.Ops.{op_at}
 use Rattle.format.specs.Steps.{next_of, next_at}
-use Rattle.format.specs.declared.item.Item.{Item}
+use Rattle.format.specs.declared.item.ValidItem.{ValidItem}
 use Rattle.format.specs.declared.cursor.Cursor.{Cursor}
 use Rattle.format.proofs.Walking.{ahead}
 use Rattle.front.proofs.Going.{leads_blank, leads_set}
@@ -18,8 +18,8 @@ use Rattle.front.proofs.settings.Goals as goal
 use Rattle.front.proofs.settings.Goals.{After-op}
 
 -- what the cursor read, where it read an item
-was_read : (x : Result (Option (Item × Cursor)) Refusal) (y : Item × Cursor) → Some y ≡ result_unwrap_or x None → answer_by next_of x ≡ accepted (some (op_at y.0.entry y.0.operand, y.1.at))
-was_read (Ok o) y e = ap (λ (x : Option (Item × Cursor)). accepted (next_of x)) (sym e)
+was_read : (x : Result (Option (ValidItem × Cursor)) Refusal) (y : ValidItem × Cursor) → Some y ≡ result_unwrap_or x None → answer_by next_of x ≡ accepted (some (op_at y.0.item.entry y.0.item.operand, y.1.at))
+was_read (Ok o) y e = ap (λ (x : Option (ValidItem × Cursor)). accepted (next_of x)) (sym e)
 was_read (Err r) y e = cc
 
 -- the item that the cursor read does x

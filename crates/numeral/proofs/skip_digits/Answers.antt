@@ -1,14 +1,19 @@
--- The digits end at the first byte that is none.
-use Rattle.std.proofs.Common.{◌≡◌, ℕ, ◌∙◌, sym, rules}
-use Rattle.std.proofs.lemmas.Iterator.{IsFirst-from_position, YieldsList-from_slice}
-use mathlib.Core.Bool.{Bool, not, true, false}
-use Rattle.definition.specs.Items.{is_digit}
-use Rattle.numeral.proofs.Digits.{first_or_end, digits_end}
+-- The digits of the part behind a place are in it; behind the text there are none.
+use Rattle.std.proofs.Common.{◌-◌, ◌+◌, ap, ◌∙◌, take, drop, length, length-take, length-drop, arith}
+use Rattle.definition.specs.Items.{digits}
+use Rattle.numeral.proofs.Digits.{digits_length, part_rest}
 use Rattle.numeral.proofs.skip_digits.Goals as goal
 
-pub returns : goal.returns
-returns c =
+pub overflow_add-result : goal.overflow_add-result
+overflow_add-result c =
     let s = c.args.text.now in
-    let other : ℕ → Bool = λ b. not (is_digit b) in
-    let is_first = IsFirst-from_position _ _ c.position.result (λ b. true ≡ other b) (λ b. false ≡ other b) c.position.ensures.ran (YieldsList-from_slice s c.iter.ensures.rest) (λ x q k. search rules) (λ x q k. search rules) in
-    c.unwrap_or.ensures ∙ sym (digits_end s ∙ first_or_end other s c.position.result is_first)
+    let at = c.args.at in
+    omega (arith, c.leading_digits.ensures, digits_length (take (length s - at) (drop at s)), length-take (length s - at) (drop at s), length-drop at s)
+
+pub returns : goal.returns
+returns c = ap (λ n. c.args.at + n) (c.leading_digits.ensures ∙ ap (λ l. length (digits l)) (part_rest c.args.at c.args.text.now))
+
+pub returns-then-text-at : goal.returns-then-text-at
+returns-then-text-at c =
+    let rest = drop c.args.at c.args.text.now in
+    omega (arith, digits_length rest, length-drop c.args.at c.args.text.now, c.if-text-at.true)

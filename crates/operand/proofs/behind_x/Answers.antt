@@ -1,7 +1,5 @@
 -- The entry of the byte behind X tells what X takes and aligns by.
-use Rattle.std.proofs.Common.{◌≡◌, ◌-◌, ◌∙◌, ap, take, drop, length, length-take, arith}
-use Rattle.definition.specs.Items.{digits}
-use Rattle.numeral.proofs.Digits.{digits_length, part_rest}
+use Rattle.std.proofs.Common.{◌≡◌, ◌∙◌, drop}
 use Rattle.operand.specs.Operands.{natural_at}
 use Rattle.options.specs.Packed.{entry_at, table_at}
 use Rattle.operand.proofs.Alignments.{natural_nil, natural_high, natural, front, single, fixed, plain, numeral, other, none}
@@ -18,15 +16,9 @@ returns-in_default-clause-same c = natural_nil _ _ c.in_default.ensures.value
 pub returns-then-b-ge128-clause-same : goal.returns-then-b-ge128-clause-same
 returns-then-b-ge128-clause-same c = natural_high _ _ _ c.in-Some.ensures.value c.if-b-ge128.true
 
-pub overflow_add-result : goal.overflow_add-result
-overflow_add-result c =
-    let rest = c.args.rest.now in
-    omega (arith, digits_length (take (length rest - 1) (drop 1 rest)), length-take (length rest - 1) (drop 1 rest))
-
 pub returns-then-e-eq-SINGLE-clause-same : goal.returns-then-e-eq-SINGLE-clause-same
 returns-then-e-eq-SINGLE-clause-same c =
-    let taken = c.skip_digits.ensures ∙ ap (λ l. length (digits l)) (part_rest 1 c.args.rest.now) in
-    single _ _ c.if-e-eq-SINGLE.true _ taken ∙ behind (goal.at.returns-then-e-eq-SINGLE-clause-same c).After-entry-e
+    single _ _ c.if-e-eq-SINGLE.true _ c.skip_digits.ensures ∙ behind (goal.at.returns-then-e-eq-SINGLE-clause-same c).After-entry-e
 
 pub returns-then-e-lt-FIXED_END-clause-same : goal.returns-then-e-lt-FIXED_END-clause-same
 returns-then-e-lt-FIXED_END-clause-same c =
