@@ -2,9 +2,9 @@
 // a plain reading, and profiles, for which the file stdout has document 01's answers, worked out by hand.
 //
 // A line that begins with # names a group: #v one of vectors, #r one of recorded answers, and of a group it is written how
-// many cases there are, and each that does not hold. Any other # is a heading, and the lines below it are profiles: each
-// line is written with our answer behind it. The files vector.rt, recorded.rt and profile.rt say what their lines are,
-// reader.rt how they write bytes. Where a read or a write fails, the program ends with that error.
+// many cases there are, and each that does not hold. The lines below any other # are profiles: each line is written with our
+// answer behind it; a # with a space behind it is a heading, and written. The files vector.rt, recorded.rt and profile.rt say
+// what their lines are, reader.rt how they write bytes. Where a read or a write fails, the program ends with that error.
 #![tactic(auto)]
 
 mod floats;
@@ -37,16 +37,22 @@ enum Group<'a> {
 }
 
 impl<'a> Group<'a> {
-    // The group that a heading begins; its line is written if it is one of profiles. The letters stand here alone,
+    // The group that a heading begins; its line is written if a space stands behind the #. The name stands behind one byte
+    // more than the letter; where that is missing, it is the text up to the heading's end. The letters stand here alone,
     // as those of vector.rt, and a Case says what they mean.
-    fn begun(rt: &impl Print, heading: &'a [u8]) -> io::Result<Group<'a>> {
+    fn begun(rt: &impl Print, heading: &'a [u8], text: &'a [u8]) -> io::Result<Group<'a>> {
+        let name = match heading {
+            [_, _, _, name @ ..] => name,
+            _ => text,
+        };
         match heading {
-            [b'#', b'v', b' ', name @ ..] => Ok(Group::Cases(Tally::new(Case::Vector, name))),
-            [b'#', b'r', b' ', name @ ..] => Ok(Group::Cases(Tally::new(Case::Recorded, name))),
-            _ => {
+            [_, b'v', ..] => Ok(Group::Cases(Tally::new(Case::Vector, name))),
+            [_, b'r', ..] => Ok(Group::Cases(Tally::new(Case::Recorded, name))),
+            [_, b' ', ..] => {
                 print_line(rt, heading)?;
                 Ok(Group::Profiles(start()))
             }
+            _ => Ok(Group::Profiles(start())),
         }
     }
 
@@ -58,11 +64,11 @@ impl<'a> Group<'a> {
         }
     }
 
-    // The group of the next line.
-    fn next(self, rt: &impl Print, line: &'a [u8]) -> io::Result<Group<'a>> {
+    // The group of the next line, given the text up to that line's end.
+    fn next(self, rt: &impl Print, line: &'a [u8], text: &'a [u8]) -> io::Result<Group<'a>> {
         if line.starts_with(b"#") {
             self.report(rt)?;
-            return Group::begun(rt, line);
+            return Group::begun(rt, line, text);
         }
         match self {
             Group::Cases(tally) => Ok(Group::Cases(tally.counted(rt, line)?)),
@@ -73,8 +79,12 @@ impl<'a> Group<'a> {
 
 fn run(rt: &impl Print, text: &[u8]) -> io::Result<()> {
     let mut group = Group::Profiles(start());
-    for line in text.split_inclusive(|b| *b == b'\n') {
-        group = group.next(rt, line.strip_suffix(b"\n").unwrap_or(line))?;
+    let mut at = 0usize;
+    for whole in text.split_inclusive(|b| *b == b'\n') {
+        let line = whole.strip_suffix(b"\n").unwrap_or(whole);
+        let end = at.saturating_add(line.len());
+        group = group.next(rt, line, text.get(..end).unwrap_or(text))?;
+        at = at.saturating_add(whole.len());
     }
     group.report(rt)
 }

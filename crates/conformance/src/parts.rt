@@ -36,6 +36,14 @@ impl<'b> Filled<'b> {
         self.count += n;
     }
 
+    // Puts one byte behind them.
+    pub fn push(&mut self, byte: u8) {
+        if let Some(place) = self.buffer.get_mut(self.count) {
+            *place = byte;
+            self.count += 1;
+        }
+    }
+
     // The bytes that it has.
     pub fn bytes(self) -> &'b [u8] {
         let Filled { buffer, count } = self;

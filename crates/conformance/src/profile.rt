@@ -7,7 +7,9 @@
 //   next FORMAT / LIST                 continued writing from the state of the line before
 //   state / BIG / LIMIT / LENGTH       sets that state
 //   any ALPHABET / SEED / COUNT        so many random formats of 4,096 bytes, through every call
-// The numbers at the end may be missing: a long buffer, start 1.
+// The numbers at the end may be missing: a long buffer, start 1. Of a call only the first letter counts: t is a tray, with
+// what write has, and another letter, or none, is reading whose list is written in bytes. Before a ROOM these, and write,
+// may have a start, whose mark is the byte 0.
 use crate::parts::{FILL, LONG, is_unchanged, room, split};
 use crate::random::random;
 use crate::reader::{Arguments, number, take_arguments, word_of};
@@ -18,7 +20,11 @@ use definition::{Continued, Refusal, State, Unpacked};
 use measure::string_packsize;
 use read::string_unpack;
 use std::io;
+use tray::pack_tray;
 use write::{pack_continued, string_pack};
+
+// The mark before a start where the call is not read.
+const OTHER_MARK: u8 = 0;
 
 fn print_refusal(rt: &impl Print, refusal: Refusal) -> io::Result<()> {
     print!(rt; ": refused {}", refusal.number())
@@ -100,9 +106,30 @@ fn lent<'b>(text: &[u8], out: &'b mut [u8]) -> &'b mut [u8] {
 }
 
 fn write(rt: &impl Print, a: Arguments<'_, '_>) -> io::Result<()> {
+    let (_, behind) = number(a.behind, OTHER_MARK, 1);
     let mut out = room::<LONG>(FILL);
-    let answer = string_pack(a.format, a.list, lent(a.behind, &mut out));
+    let answer = string_pack(a.format, a.list, lent(behind, &mut out));
     print_written(rt, answer, &out)
+}
+
+fn tray(rt: &impl Print, a: Arguments<'_, '_>) -> io::Result<()> {
+    let (_, behind) = number(a.behind, OTHER_MARK, 1);
+    let mut out = room::<LONG>(FILL);
+    let answer = pack_tray(a.format, a.list, lent(behind, &mut out));
+    print_written(rt, answer.map_err(|refused| refused.refusal), &out)
+}
+
+// Reading whose list is written as a record is.
+fn read_bytes(rt: &impl Print, a: Arguments<'_, '_>) -> io::Result<()> {
+    let (start, behind) = number(a.behind, OTHER_MARK, 1);
+    let mut out = room::<LONG>(FILL);
+    let answer = string_unpack(
+        a.format,
+        a.list,
+        start.cast_signed(),
+        lent(behind, &mut out),
+    );
+    print_written(rt, answer.map(|unpacked| unpacked.length), &out)
 }
 
 fn read(rt: &impl Print, a: Arguments<'_, '_>) -> io::Result<()> {
@@ -151,26 +178,30 @@ fn state_of(text: &[u8]) -> State {
     align::state(big > 0, limit, length)
 }
 
-// Answers a call, and gives the state for the next line. The words stand here alone, so they are no enum.
+// Answers a call, and gives the state for the next line. A call is known by its first letter; without one of these it is one
+// that reads bytes. The letters stand here alone, so they are no enum.
 fn answered(rt: &impl Print, call: &[u8], a: Arguments<'_, '_>, state: State) -> io::Result<State> {
     match call {
-        b"measure" => print_length(rt, string_packsize(a.format))?,
-        b"bound" => {
+        [b'm', ..] => print_length(rt, string_packsize(a.format))?,
+        [b'b', ..] => {
             let (data_length, _) = number(a.behind_format, b'/', 0);
             print_length(rt, list_bound(a.format, data_length))?;
         }
-        b"write" => write(rt, a)?,
-        b"read" => read(rt, a)?,
-        b"first" => return continued(rt, a, start()),
-        b"next" => return continued(rt, a, state),
-        b"state" => return Ok(state_of(a.behind_format)),
-        b"any" => random(rt, a.format, a.behind_format)?,
-        _ => print!(rt; ": no such call")?,
+        [b'w', ..] => write(rt, a)?,
+        [b't', ..] => tray(rt, a)?,
+        [b'r', ..] => read(rt, a)?,
+        [b'f', ..] => return continued(rt, a, start()),
+        [b'n', ..] => return continued(rt, a, state),
+        [b's', ..] => return Ok(state_of(a.behind_format)),
+        [b'a', ..] => random(rt, a.format, a.behind_format)?,
+        _ => read_bytes(rt, a)?,
     }
     Ok(state)
 }
 
-// Writes a line and the answer to it, and gives the state for the next one.
+// Writes a line and the answer to it, and gives the state for the next one. Not inlined, since the caller would pay for the
+// long buffers on each line.
+#[inline(never)]
 pub fn print_profile(rt: &impl Print, line: &[u8], state: State) -> io::Result<State> {
     rt.write_all(line)?;
     let (_, behind) = word_of(line);

@@ -1,6 +1,10 @@
 // Bytes and numbers as a line of text writes them: "AB" for a text's bytes, FE or 0304FE for bytes in hexadecimal, i-2 for
 // the field of an integer in a value list. A `*` and a number behind one of them repeat it. Spaces between them mean
 // nothing. What a buffer has no room for is left out. What is read is given with the text behind it.
+//
+// A text without its closing `"` goes on with line feeds, and a last digit without a second one is read with the byte behind
+// it. Reading takes a turn for each byte, and for what stands before, between and behind parts; it ends, within a part too,
+// once it has taken as many as TURNS says.
 ghost use Rattle.std.specs.Prelude.{◌≡◌, ◌+◌, ◌<◌, ◌≤◌, length, IfSome};
 
 use crate::parts::Filled;
@@ -14,11 +18,14 @@ pub fn split_while<F: Fn(u8) -> bool>(text: &[u8], test: F) -> (&[u8], &[u8])
     text.split_at(end)
 }
 
-// The text behind the spaces at its front.
-fn after_spaces(text: &[u8]) -> &[u8]
+// The text behind a space at its front, if one stands there.
+fn after_space(text: &[u8]) -> &[u8]
     ensures { length result.now ≤ length text.now }
 {
-    split_while(text, |b| b == b' ').1
+    match text {
+        [b' ', rest @ ..] => rest,
+        _ => text,
+    }
 }
 
 // The text behind its first byte.
@@ -48,6 +55,13 @@ fn digit(b: u8) -> Option<u8>
     }
 }
 
+// The hexadecimal digit that a text begins with, if it begins with one.
+fn first_digit(text: &[u8]) -> Option<u8>
+    ensures { IfSome result (λ d. d < 16) }
+{
+    digit(*text.first()?)
+}
+
 // A number in decimal digits, by its lowest 64 bits, which may have a `-` before it.
 fn integer(text: &[u8]) -> (u64, &[u8])
     ensures { length result.1.now ≤ length text.now }
@@ -71,50 +85,19 @@ fn decimal(text: &[u8]) -> (u64, &[u8])
     (value, behind)
 }
 
-// The number behind a mark at a text's front, or another one where the mark is missing. Spaces may stand before and behind it.
+// The number behind a mark at a text's front, or another one where the mark is missing. A space may stand before and behind it.
 // A mark is a byte of the text, compared and not kept, so it is no enum.
 pub fn number(text: &[u8], mark: u8, otherwise: u64) -> (u64, &[u8]) {
     match text.split_first() {
         Some((first, rest)) if *first == mark => {
-            let (n, behind) = integer(after_spaces(rest));
-            (n, after_spaces(behind))
+            let (n, behind) = integer(after_space(rest));
+            (n, after_space(behind))
         }
         _ => (otherwise, text),
     }
 }
 
-// A part of what is read: a text, hexadecimal digits, or the integer of a field.
-#[derive(Clone, Copy)]
-enum Part<'t> {
-    Text(&'t [u8]),
-    Digits(&'t [u8]),
-    Field(u64),
-}
-
-// The part that a text begins with, if it begins with one.
-fn part_of(text: &[u8]) -> Option<(Part<'_>, &[u8])>
-    ensures { IfSome result (λ r. length r.1.now < length text.now) }
-{
-    match text {
-        [b'"', rest @ ..] => {
-            let (quoted, behind) = split_while(rest, |b| b != b'"');
-            Some((Part::Text(quoted), after_one(behind)))
-        }
-        [b'i', rest @ ..] => {
-            let (n, behind) = integer(rest);
-            Some((Part::Field(n), behind))
-        }
-        _ => {
-            let (digits, behind) = split_while(text, |b| digit(b).is_some());
-            if digits.is_empty() {
-                return None;
-            }
-            Some((Part::Digits(digits), behind))
-        }
-    }
-}
-
-// How often the part before a text stands: once, or as often as is said behind a `*`.
+// How often the part before a text stands: once, or as often as is said behind a `*`, where 0 says once too.
 fn times(text: &[u8]) -> (u64, &[u8])
     ensures { length result.1.now ≤ length text.now }
 {
@@ -124,42 +107,151 @@ fn times(text: &[u8]) -> (u64, &[u8])
     }
 }
 
-// Puts a part into a buffer. A field has a tag and a length in three bytes, and the integer in eight.
-fn put_part(out: &mut Filled<'_>, part: Part<'_>) {
-    match part {
-        Part::Text(text) => out.put(text),
-        Part::Digits(digits) => put_digits(out, digits),
-        Part::Field(integer) => {
-            out.put(&[1, 0, 8]);
-            out.put(&integer.to_be_bytes());
+// What the next turn reads.
+#[derive(Clone, Copy)]
+enum Turn {
+    // A space, or what a part begins with.
+    Between,
+    // A byte of a text, or the quote behind it.
+    Text,
+    // Two hexadecimal digits, or nothing behind the last ones.
+    Digits,
+    // The byte of an integer's field that stands at a place.
+    Field([u8; 11], usize),
+    // Whether the part that was read stands again.
+    Behind,
+}
+
+// The field of an integer: a tag and a length in three bytes, and the integer in eight.
+fn field_of(integer: u64) -> [u8; 11] {
+    let [a, b, c, d, e, f, g, h] = integer.to_be_bytes();
+    [1, 0, 8, a, b, c, d, e, f, g, h]
+}
+
+// Goes over the bytes that a text begins with, turn by turn: an item is a byte, or none in a turn that reads none.
+#[derive(Drop)]
+struct Reader<'t> {
+    turn: Turn,
+    // What is left of the text, and what was left where the part begins.
+    left: &'t [u8],
+    part: &'t [u8],
+    // Of a part that stands more than once: how often it is still to be read, and the text behind it.
+    again: Option<(u64, &'t [u8])>,
+}
+
+impl<'t> Reader<'t> {
+    fn new(text: &'t [u8]) -> Reader<'t> {
+        Reader {
+            turn: Turn::Between,
+            left: text,
+            part: text,
+            again: None,
+        }
+    }
+
+    // Passes a space, or begins a part. None where neither stands.
+    fn begin(&mut self) -> Option<()> {
+        let text = self.left;
+        self.part = text;
+        match text {
+            [b' ', rest @ ..] => self.left = rest,
+            [b'"', rest @ ..] => {
+                self.left = rest;
+                self.turn = Turn::Text;
+            }
+            [b'i', rest @ ..] => {
+                let (n, behind) = integer(rest);
+                self.left = behind;
+                self.turn = Turn::Field(field_of(n), 0);
+            }
+            _ => {
+                first_digit(text)?;
+                self.turn = Turn::Digits;
+            }
+        }
+        Some(())
+    }
+
+    // A byte, until the quote.
+    fn next_of_text(&mut self) -> Option<u8> {
+        let text = self.left;
+        self.left = after_one(text);
+        let b = text.first().copied().unwrap_or(b'\n');
+        if b == b'"' {
+            self.turn = Turn::Behind;
+            return None;
+        }
+        Some(b)
+    }
+
+    // A byte, until there is no digit. A second digit that is missing is 16.
+    fn next_of_digits(&mut self) -> Option<u8> {
+        let text = self.left;
+        let Some(high) = first_digit(text) else {
+            self.turn = Turn::Behind;
+            return None;
+        };
+        let rest = after_one(text);
+        self.left = after_one(rest);
+        Some(high * 16 | first_digit(rest).unwrap_or(16))
+    }
+
+    // The byte at a place.
+    fn next_of_field(&mut self, field: [u8; 11], at: usize) -> Option<u8> {
+        self.turn = if at < 10 {
+            Turn::Field(field, at + 1)
+        } else {
+            Turn::Behind
+        };
+        field.get(at).copied()
+    }
+
+    // Goes back to where the part begins, or on to what stands behind it.
+    fn end(&mut self) {
+        self.turn = Turn::Between;
+        let left = self.left;
+        let (n, behind) = self.again.unwrap_or_else(|| times(left));
+        if n > 1 {
+            self.again = Some((n - 1, behind));
+            self.left = self.part;
+        } else {
+            self.again = None;
+            self.left = behind;
         }
     }
 }
 
-// Puts the bytes of hexadecimal digits, two for each.
-fn put_digits(out: &mut Filled<'_>, digits: &[u8]) {
-    for [high, low] in digits.as_chunks::<2>().0 {
-        out.put(&[digit(*high).unwrap_or(0) * 16 + digit(*low).unwrap_or(0)]);
+impl Iterator for Reader<'_> {
+    type Item = Option<u8>;
+
+    fn next(&mut self) -> Option<Option<u8>> {
+        match self.turn {
+            Turn::Between => {
+                self.begin()?;
+                Some(None)
+            }
+            Turn::Text => Some(self.next_of_text()),
+            Turn::Digits => Some(self.next_of_digits()),
+            Turn::Field(field, at) => Some(self.next_of_field(field, at)),
+            Turn::Behind => {
+                self.end();
+                Some(None)
+            }
+        }
     }
 }
 
-// Puts a part so many times.
-fn repeat(out: &mut Filled<'_>, part: Part<'_>, times: u64) {
-    for _ in 0..times {
-        put_part(out, part);
-    }
-}
+// How many turns reading takes at most: more than a line takes that repeats little.
+const TURNS: usize = 100000000;
 
 // The bytes that a text begins with, at a buffer's front.
 pub fn bytes<'t, 'b>(text: &'t [u8], buffer: &'b mut [u8]) -> (&'b [u8], &'t [u8]) {
+    let mut reader = Reader::new(text);
     let mut out = Filled::new(buffer);
-    let mut left = after_spaces(text);
-    while let Some((part, behind)) = part_of(left) {
-        let (times, behind) = times(behind);
-        repeat(&mut out, part, times);
-        left = after_spaces(behind);
+    for byte in reader.by_ref().take(TURNS).flatten() {
+        out.push(byte);
     }
-    (out.bytes(), left)
+    (out.bytes(), reader.left)
 }
 
 // The arguments of a call: its format, its list or data, and the text behind each.

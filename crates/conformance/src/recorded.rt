@@ -5,7 +5,8 @@
 //   t FORMAT / RUN = TRAY                    a tray
 //   l FORMAT / PAIRS = LEAST / GREATEST      a range of lengths
 // A refusal has ! in place of = and what follows it; behind that of a tray stands / PLACE, and behind that of a range its
-// number. `compare/run record FILE` makes the lines. The buffers have fixed sizes, since nothing is allocated.
+// number. Any other letter is reading too, and a START that writing or a tray has is passed over.
+// `compare/run record FILE` makes the lines. The buffers have fixed sizes, since nothing is allocated.
 use crate::parts::FILL;
 use crate::reader::{bytes, number, take_arguments};
 use definition::{Refusal, Unpacked};
@@ -45,7 +46,8 @@ fn has_number(text: &[u8], mark: u8, x: u64) -> bool {
 }
 
 // Whether the answer that a text says is ours: the same bytes at the front of the buffer, and no other byte changed; the same
-// next position, or place of a refused record, if there is one. Behind the mark of a refusal stand no bytes.
+// next position, or place of a refused record, if there is one. Behind the mark of a refusal stand no bytes. A buffer of one
+// byte more shows that more bytes stand there than ours has room for.
 fn is_answer<A: Into<Answer>, E: Into<TrayRefusal>>(
     text: &[u8],
     answer: Result<A, E>,
@@ -64,17 +66,17 @@ fn is_answer<A: Into<Answer>, E: Into<TrayRefusal>>(
     let Some((first, rest)) = text.split_first() else {
         return false;
     };
-    let mut expected = [FILL; 1024];
+    let mut expected = [FILL; 1025];
     let (given, behind) = bytes(rest, &mut expected);
     let is_length = given.len() as u64 == length;
-    *first == mark && is_length && has_number(behind, b'/', x) && out == expected.as_slice()
+    *first == mark && is_length && has_number(behind, b'/', x) && expected.starts_with(out)
 }
 
 // Whether the size that a text says is ours.
 fn is_size(text: &[u8], answer: Result<u64, Refusal>) -> bool {
     match answer {
         Ok(size) => has_number(text, b'=', size),
-        Err(_) => text == b"!".as_slice(),
+        Err(_) => has_number(text, b'!', 0),
     }
 }
 
@@ -97,23 +99,22 @@ pub fn is_same(line: &[u8]) -> bool {
     let mut format_room = [0u8; 1024];
     let mut list_room = [0u8; 1024];
     let a = take_arguments(text, &mut format_room, &mut list_room);
+    let (start, behind) = number(a.behind, b'/', 1);
     let mut out = [FILL; 1024];
     match letter {
         b'm' => is_size(a.behind_format, string_packsize(a.format)),
         b'l' => is_range(a.behind, packsize_range(a.format, a.list)),
         b'w' => {
             let answer = string_pack(a.format, a.list, &mut out);
-            is_answer(a.behind, answer, &out)
+            is_answer(behind, answer, &out)
         }
         b't' => {
             let answer = pack_tray(a.format, a.list, &mut out);
-            is_answer(a.behind, answer, &out)
+            is_answer(behind, answer, &out)
         }
-        b'r' => {
-            let (start, behind) = number(a.behind, b'/', 1);
+        _ => {
             let answer = string_unpack(a.format, a.list, start.cast_signed(), &mut out);
             is_answer(behind, answer, &out)
         }
-        _ => false,
     }
 }

@@ -38,8 +38,8 @@ impl<'d> Vector<'d> {
     }
 }
 
-// The vector of an order, a sign and the numbers behind them. The two marks are compared here and not kept.
-fn vector_of(order: u8, sign: u8, numbers: &[u8]) -> Option<Vector<'_>> {
+// The vector of its order, whether it answers, and the numbers behind that.
+fn vector_of(big: bool, answers: bool, numbers: &[u8]) -> Option<Vector<'_>> {
     let (size, words) = numbers.split_first()?;
     let (a, data) = words.split_first_chunk::<8>()?;
     let (b, c) = data.split_first_chunk::<8>()?;
@@ -48,8 +48,8 @@ fn vector_of(order: u8, sign: u8, numbers: &[u8]) -> Option<Vector<'_>> {
     }
     Some(Vector {
         size: usize::from(*size),
-        big: order == b'>',
-        answers: sign == b'=',
+        big,
+        answers,
         a: u64::from_be_bytes(*a),
         b: u64::from_be_bytes(*b),
         c: u64::from_be_bytes(*c.first_chunk::<8>()?),
@@ -80,12 +80,14 @@ fn holds(letter: u8, v: Vector<'_>) -> bool {
     }
 }
 
-// Whether a line's vector holds. The buffer has a fixed size, since nothing is allocated.
+// Whether a line's vector holds. What the line doesn't have is 0, and no mark. The buffer has a fixed size, since nothing is allocated.
 pub fn is_held(line: &[u8]) -> bool {
-    let [letter, _, order, _, sign, _, numbers @ ..] = line else {
+    let Some(letter) = line.first() else {
         return false;
     };
-    let mut room = [0u8; 25];
-    let (numbers, _) = bytes(numbers, &mut room);
-    vector_of(*order, *sign, numbers).is_some_and(|v| holds(*letter, v))
+    let mut numbers = [0u8; 25];
+    bytes(line.get(6..).unwrap_or(&[]), &mut numbers);
+    let big = line.get(2) == Some(&b'>');
+    let answers = line.get(4) == Some(&b'=');
+    vector_of(big, answers, &numbers).is_some_and(|v| holds(*letter, v))
 }
