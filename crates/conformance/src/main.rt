@@ -38,7 +38,7 @@ enum Group<'a> {
 
 impl<'a> Group<'a> {
     // The group that a heading begins; its line is written if a space stands behind the #. The name stands behind one byte
-    // more than the letter; where that is missing, it is the text up to the heading's end. The letters stand here alone,
+    // more than the letter; where that byte is missing, it is the text up to the heading's end. The letters stand here alone,
     // as those of vector.rt, and a Case says what they mean.
     fn begun(rt: &impl Print, heading: &'a [u8], text: &'a [u8]) -> io::Result<Group<'a>> {
         let name = match heading {

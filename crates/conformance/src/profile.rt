@@ -8,8 +8,8 @@
 //   state / BIG / LIMIT / LENGTH       sets that state
 //   any ALPHABET / SEED / COUNT        so many random formats of 4,096 bytes, through every call
 // The numbers at the end may be missing: a long buffer, start 1. Of a call only the first letter counts: t is a tray, with
-// what write has, and another letter, or none, is reading whose list is written in bytes. Before a ROOM these, and write,
-// may have a start, whose mark is the byte 0.
+// the arguments of write, and another letter, or none, is reading whose list is written in bytes. Before their ROOM these
+// two and write may have a start, whose mark is the byte 0.
 use crate::parts::{FILL, LONG, is_unchanged, room, split};
 use crate::random::random;
 use crate::reader::{Arguments, number, take_arguments, word_of};

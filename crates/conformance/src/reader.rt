@@ -97,7 +97,8 @@ pub fn number(text: &[u8], mark: u8, otherwise: u64) -> (u64, &[u8]) {
     }
 }
 
-// How often the part before a text stands: once, or as often as is said behind a `*`, where 0 says once too.
+// How often the part before a text stands: once, or as often as is said behind a `*`. A 0, or no number there, is once too, since a part is
+// read before it is known how often it stands.
 fn times(text: &[u8]) -> (u64, &[u8])
     ensures { length result.1.now ≤ length text.now }
 {
@@ -193,7 +194,7 @@ impl<'t> Reader<'t> {
         };
         let rest = after_one(text);
         self.left = after_one(rest);
-        Some(high * 16 | first_digit(rest).unwrap_or(16))
+        Some((high * 16) | first_digit(rest).unwrap_or(16))
     }
 
     // The byte at a place.

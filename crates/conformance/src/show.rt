@@ -16,15 +16,26 @@ pub fn print_bytes(rt: &impl Print, bytes: &[u8]) -> io::Result<()> {
         .try_for_each(|same| print_same(rt, same))
 }
 
+// A byte. Its digits are written by themselves: by `{:02X}` a long record takes two and a half times the instructions.
+fn print_byte(rt: &impl Print, b: u8) -> io::Result<()> {
+    let digits = b"0123456789ABCDEF";
+    rt.write_all(&[
+        b' ',
+        digits[usize::from(b / 16)],
+        digits[usize::from(b % 16)],
+    ])
+}
+
 // Bytes that are the same.
 fn print_same(rt: &impl Print, same: &[u8]) -> io::Result<()> {
     if let [b, ..] = same
         && same.len() > 8
     {
-        return print!(rt; " {b:02X}*{}", same.len());
+        print_byte(rt, *b)?;
+        return print!(rt; "*{}", same.len());
     }
     for b in same {
-        print!(rt; " {b:02X}")?;
+        print_byte(rt, *b)?;
     }
     Ok(())
 }
