@@ -48,11 +48,12 @@ impl<'a> Group<'a> {
         match heading {
             [_, b'v', ..] => Ok(Group::Cases(Tally::new(Case::Vector, name))),
             [_, b'r', ..] => Ok(Group::Cases(Tally::new(Case::Recorded, name))),
-            [_, b' ', ..] => {
-                print_line(rt, heading)?;
+            _ => {
+                if let [_, b' ', ..] = heading {
+                    print_line(rt, heading)?;
+                }
                 Ok(Group::Profiles(start()))
             }
-            _ => Ok(Group::Profiles(start())),
         }
     }
 

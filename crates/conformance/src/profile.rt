@@ -105,31 +105,35 @@ fn lent<'b>(text: &[u8], out: &'b mut [u8]) -> &'b mut [u8] {
     &mut out[..n]
 }
 
-fn write(rt: &impl Print, a: Arguments<'_, '_>) -> io::Result<()> {
-    let (_, behind) = number(a.behind, OTHER_MARK, 1);
+// Writes what a call puts into a buffer, given a start and the buffer; the start's mark is the byte 0.
+fn put<F: Fn(i64, &mut [u8]) -> Result<u64, Refusal>>(
+    rt: &impl Print,
+    text: &[u8],
+    call: F,
+) -> io::Result<()>
+    requires { F.IsAlwaysCallable call }
+{
+    let (start, behind) = number(text, OTHER_MARK, 1);
     let mut out = room::<LONG>(FILL);
-    let answer = string_pack(a.format, a.list, lent(behind, &mut out));
+    let answer = call(start.cast_signed(), lent(behind, &mut out));
     print_written(rt, answer, &out)
 }
 
+fn write(rt: &impl Print, a: Arguments<'_, '_>) -> io::Result<()> {
+    put(rt, a.behind, |_, out| string_pack(a.format, a.list, out))
+}
+
 fn tray(rt: &impl Print, a: Arguments<'_, '_>) -> io::Result<()> {
-    let (_, behind) = number(a.behind, OTHER_MARK, 1);
-    let mut out = room::<LONG>(FILL);
-    let answer = pack_tray(a.format, a.list, lent(behind, &mut out));
-    print_written(rt, answer.map_err(|refused| refused.refusal), &out)
+    put(rt, a.behind, |_, out| {
+        pack_tray(a.format, a.list, out).map_err(|refused| refused.refusal)
+    })
 }
 
 // Reading whose list is written as a record is.
 fn read_bytes(rt: &impl Print, a: Arguments<'_, '_>) -> io::Result<()> {
-    let (start, behind) = number(a.behind, OTHER_MARK, 1);
-    let mut out = room::<LONG>(FILL);
-    let answer = string_unpack(
-        a.format,
-        a.list,
-        start.cast_signed(),
-        lent(behind, &mut out),
-    );
-    print_written(rt, answer.map(|unpacked| unpacked.length), &out)
+    put(rt, a.behind, |start, out| {
+        string_unpack(a.format, a.list, start, out).map(|unpacked| unpacked.length)
+    })
 }
 
 fn read(rt: &impl Print, a: Arguments<'_, '_>) -> io::Result<()> {

@@ -49,3 +49,7 @@ module _ (t : Table) (e : ℕ) (l : 192 ≤ e) (h : e < 248) (s : List ℕ) wher
               ≡ by_read (entry_at e).class (entry_at e).size (read_of (cond b (Numeral.Value (value 0 (d ∷ ds))) Numeral.TooLarge) (length (d ∷ ds)))
           fits true = refl
           fits false = rw large_by
+
+  -- a numeral that is refused is the operand's refusal
+  pub refused_read : (x : Result (Option read.Numeral) Refusal) (r : Refusal) → x ≡ Err r → x ≡ read_of (numeral_of (digits s)) (length (digits s)) → refused (refusal_number r) ≡ operand_at t (entry_at e) s
+  refused_read x r q p = by_read_is (Err r) (sym q ∙ p)

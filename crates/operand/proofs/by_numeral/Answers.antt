@@ -1,13 +1,13 @@
 -- The operand is the one by what the digits are read as.
-use Rattle.std.proofs.Common.{ap, ◌∙◌, Some, None, Ok, Err}
+use Rattle.std.proofs.Common.{ap, ◌∙◌, refl, Some, None, Ok, Err}
 use Rattle.laws.proofs.Exits.{exit_is}
 use Rattle.operand.specs.Operands.{taking}
-use Rattle.operand.proofs.Numerals.{by_read_is}
+use Rattle.operand.proofs.Numerals.{by_read_is, refused_read}
 use Rattle.operand.proofs.by_numeral.Goals as goal
 
 pub returns-in_err-numeral : goal.returns-in_err-numeral
 returns-in_err-numeral c =
-    λ t. rw (exit_is c.from_residual.ensures.1) (by_read_is t _ c.args.option.low c.args.option.high _ (Err _) c.in_err-numeral.ensures)
+    λ t. rw (exit_is c.from_residual.ensures.1) (refused_read t _ c.args.option.low c.args.option.high _ (Err _) _ refl c.in_err-numeral.ensures)
 
 pub returns-in_err-without_numeral-in-None : goal.returns-in_err-without_numeral-in-None
 returns-in_err-without_numeral-in-None c =
